@@ -1,0 +1,5 @@
+pub mod Literal
+pub mod Truth
+pub mod Cardinality
+pub mod Normal
+pub mod Answer
