@@ -1,5 +1,5 @@
 -- Constraints and their truth.
-use Rattle.std.specs.Prelude.{◌≡◌, ℕ, Bool, List}
+use Rattle.std.specs.Prelude.{Bool}
 use Rattle.sat_terms.specs.Truth.{Assignment}
 use Rattle.sat_terms.specs.Cardinality.{at_least_true, parity_true}
 use Rattle.sat_model.specs.declared.constraint.Constraint.{Constraint}

@@ -1,7 +1,7 @@
 -- Laws of literals. They say all that is known of codes: no proof above this crate opens `neg`, `var_of` and their kin.
-use Rattle.std.proofs.Common.{◌≡◌, ℕ, ◌+◌, ◌-◌, ◌*◌, ◌/◌, ◌%◌, ◌<◌, ◌≤◌, ◌^◌, ◌⊎◌, inl, inr, refl, sym, ap, ◌∙◌, arith}
+use Rattle.std.proofs.Common.{◌≡◌, ℕ, ◌+◌, ◌%◌, ◌⊎◌, inl, inr, arith}
 use Rattle.std.proofs.lemmas.Bool.{cases_eq}
-use Rattle.sat_terms.specs.Literal.{neg, var_of, pos_lit, neg_lit, IsLiteral, IsVariable}
+use Rattle.sat_terms.specs.Literal.{neg, var_of, pos_lit}
 
 -- the two forms of a literal
 pub neg_cases : (l : ℕ) → ((l % 2 ≡ 0) × (neg l ≡ l + 1)) ⊎ ((l % 2 ≡ 1) × (neg l + 1 ≡ l))

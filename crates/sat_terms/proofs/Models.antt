@@ -1,5 +1,5 @@
 -- Laws of lists of truth values.
-use Rattle.std.proofs.Common.{◌≡◌, ◌≢◌, ℕ, suc, zero, ◌+◌, ◌-◌, ◌*◌, ◌/◌, ◌%◌, ◌<◌, ◌≤◌, Bool, true, false, cond, not, eqb, List, [], ◌∷◌, length, get_or, set, inl, inr, refl, sym, ap, ◌∙◌, arith}
+use Rattle.std.proofs.Common.{◌≡◌, ◌≢◌, ℕ, suc, zero, ◌-◌, ◌%◌, ◌<◌, ◌≤◌, Bool, true, false, cond, not, eqb, List, length, get_or, set, inl, inr, refl, sym, ◌∙◌, arith}
 use Rattle.std.proofs.lemmas.Bool.{eqb-true, eqb-false, eq-eqb, ne_eqb, cases_eq}
 use Rattle.std.proofs.lemmas.List.{get_or_past, get_or-set_same, get_or-set_other}
 use mathlib.Core.Path.{fun_ext}
@@ -25,12 +25,12 @@ values_at m (suc v) lt = let e : suc v - 1 ≡ v = omega arith in rw e refl
 pub values-set : (m : List Bool) (u v : ℕ) (b : Bool) → 0 < u → u ≤ length m → values (set m (u - 1) b) v ≡ cond (eqb u v) b (values m v)
 values-set m u v b pos in' =
     elim (cases_eq u v) [
-      inl e ↦ rw (eq-eqb u v e, ← e, values_at (set m (u - 1) b) u pos) (get_or-set_same m (u - 1) b false (omega arith))
-    | inr n ↦ rw (ne_eqb u v n) (go v n)
+      | inl e ↦ rw (eq-eqb u v e, ← e, values_at (set m (u - 1) b) u pos) (get_or-set_same m (u - 1) b false (omega arith))
+      | inr n ↦ rw (ne_eqb u v n) (go v n)
     ] where
-  go : (v : ℕ) → u ≢ v → values (set m (u - 1) b) v ≡ values m v
-  go zero n = values_zero (set m (u - 1) b) ∙ sym (values_zero m)
-  go (suc k) n = values_at (set m (u - 1) b) (suc k) (omega arith) ∙ get_or-set_other m (u - 1) (suc k - 1) b false (λ e. n (omega arith)) ∙ sym (values_at m (suc k) (omega arith))
+      go : (v : ℕ) → u ≢ v → values (set m (u - 1) b) v ≡ values m v
+      go zero n = values_zero (set m (u - 1) b) ∙ sym (values_zero m)
+      go (suc k) n = values_at (set m (u - 1) b) (suc k) (omega arith) ∙ get_or-set_other m (u - 1) (suc k - 1) b false (λ e. n (omega arith)) ∙ sym (values_at m (suc k) (omega arith))
 
 -- a literal by its test of sign
 pub lit_true_pos : (f : Assignment) (l : ℕ) → eqb (l % 2) 0 ≡ true → lit_true f l ≡ f (var_of l)
@@ -45,4 +45,5 @@ pub same_values : (f g : Assignment) → ((v : ℕ) → f v ≡ g v) → f ≡ g
 same_values f g h = fun_ext h
 
 pub ruleset reads = (values_zero, values_past, values_at)
+
 pub ruleset signs = (lit_true_pos, lit_true_neg)

@@ -1,5 +1,5 @@
 -- Constraints that count positions: repeated and opposite literals count at each place where they stand.
-use Rattle.std.specs.Prelude.{◌≡◌, ℕ, ◌%◌, ◌==◌, nat_le, Bool, if◌then◌else◌, List, count_by}
+use Rattle.std.specs.Prelude.{ℕ, ◌%◌, ◌==◌, nat_le, Bool, if◌then◌else◌, List, count_by}
 use Rattle.sat_terms.specs.Truth.{Assignment, lit_true}
 
 -- how many positions of the list hold a true literal

@@ -1,7 +1,7 @@
 -- Literals. DIMACS writes the variable v as the number v and its negation as -v, for v from 1 on. Here a literal is seen
 -- as its code, which is 2v for v and 2v + 1 for -v.
 use Rattle.std.specs.List.{list_any}
-use Rattle.std.specs.Prelude.{◌≡◌, ℕ, ◌+◌, ◌-◌, ◌*◌, ◌/◌, ◌%◌, ◌^◌, ◌<◌, ◌≤◌, ◌==◌, Bool, List, ℤ, pos, negsuc}
+use Rattle.std.specs.Prelude.{ℕ, ◌+◌, ◌-◌, ◌*◌, ◌/◌, ◌%◌, ◌^◌, ◌<◌, ◌≤◌, ◌==◌, Bool, List, ℤ, pos, negsuc}
 
 -- the numbers of variables
 abbrev pub IsVariable : ℕ → Type 0

@@ -1,5 +1,5 @@
 -- Normal clauses.
-use Rattle.std.specs.Prelude.{◌≡◌, ◌≢◌, ℕ, ◌<◌, List, AllPairs}
+use Rattle.std.specs.Prelude.{◌≢◌, ℕ, ◌<◌, List, AllPairs}
 use Rattle.sat_terms.specs.Literal.{var_of}
 
 -- The literals stand in strictly rising code, and no variable stands twice.

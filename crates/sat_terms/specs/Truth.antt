@@ -1,6 +1,6 @@
 -- Truth under an assignment (DIMACS).
 use Rattle.std.specs.List.{list_any, list_all}
-use Rattle.std.specs.Prelude.{◌≡◌, ℕ, ◌/◌, ◌%◌, ◌==◌, Bool, true, false, if◌then◌else◌, not, List, [], ◌∷◌, slice_index_or}
+use Rattle.std.specs.Prelude.{ℕ, ◌/◌, ◌%◌, ◌==◌, Bool, false, if◌then◌else◌, not, List, ◌∷◌, slice_index_or}
 
 -- An assignment says of each variable whether it is true.
 abbrev pub Assignment : Type 0
