@@ -1,0 +1,3 @@
+pub mod Setting
+pub mod Touching
+pub mod Chains
