@@ -1,0 +1,7 @@
+//! Backtracking with unit propagation over a plain list of clauses.
+#![tactic(auto)]
+
+pub mod assignment;
+pub mod clause_list;
+pub mod scan;
+pub mod search;

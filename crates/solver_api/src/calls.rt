@@ -1,0 +1,55 @@
+//! The calls of a solver and their answers.
+
+use sat_model::constraint::Kind;
+use sat_model::lists::Lits;
+use sat_model::literal::Lit;
+use thiserror::Error;
+
+/// A call that changes a solver.
+#[derive(Drop)]
+pub enum Call {
+    /// The clause of these literals is given.
+    Add(Lits),
+    /// The literal is assumed for the next solve.
+    Assume(Lit),
+    /// A model or a core is looked for.
+    Solve,
+}
+
+/// What a call answers that was not refused.
+#[derive(Clone, Copy, Debug, PartialEq, Eq)]
+pub enum Reply {
+    /// It is done.
+    Done,
+    /// The answer of a solve.
+    Solved(Outcome),
+}
+
+/// What a solve answers.
+#[derive(Clone, Copy, Debug, PartialEq, Eq)]
+pub enum Outcome {
+    /// There is a model of what was given and of the assumptions.
+    Sat,
+    /// There is none.
+    Unsat,
+}
+
+/// Why a call is refused.
+#[derive(Clone, Copy, Debug, PartialEq, Eq, Error)]
+pub enum Refusal {
+    /// A model was asked for, and the last call was no solve that found one.
+    #[error("no model")]
+    NotSat,
+    /// A core was asked for, and the last call was no solve that found one.
+    #[error("no core")]
+    NotUnsat,
+    /// The solver takes no constraints of this kind. No call answers so yet.
+    #[error("kind not taken")]
+    NotTaken(Kind),
+    /// With the literals of this call more than 2^27 would have been handed over: this many.
+    #[error("too many literals: {0}")]
+    TooManyLiterals(u64),
+    /// Want of memory.
+    #[error("out of memory")]
+    Memory,
+}

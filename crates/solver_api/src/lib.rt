@@ -1,0 +1,9 @@
+//! An incremental SAT solver: clauses, assumptions, models and cores.
+#![tactic(auto)]
+
+pub mod calls;
+mod find;
+pub mod givens;
+mod literals;
+pub mod mode;
+pub mod solver;

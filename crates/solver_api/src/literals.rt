@@ -1,0 +1,38 @@
+//! Lists of literals.
+ghost use Rattle.std.specs.Prelude.{◌≡◌, ◌≤◌, max, IfOk};
+ghost use Rattle.sat_terms.specs.Answer.{Within, greatest_var, IsSubsequence, NoRepeats};
+
+use sat_model::lists::Lits;
+use sat_model::literal::Lit;
+use sat_model::memory::Memory;
+use std::alloc::Global;
+
+// The greatest variable of the literals, or `most` where that is greater.
+pub fn greatest_of(most: u32, lits: &[Lit]) -> u32
+    requires { most ≤ 4194303 }
+    ensures value { result ≡ max most (greatest_var lits.now) }
+    ensures few { result ≤ 4194303 }
+    ensures within { Within result lits.now }
+{
+    let mut greatest = most;
+    for lit in lits {
+        greatest = greatest.max(lit.var().index());
+    }
+    greatest
+}
+
+// The literals, each at its first place alone.
+pub fn without_repeats(alloc: Global, lits: &[Lit], greatest: u32) -> Result<Lits, Memory>
+    requires few { greatest ≤ 4194303 }
+    requires within { Within greatest lits.now }
+    ensures part { IfOk result (λ once. IsSubsequence once lits.now) }
+    ensures once { IfOk result (λ once. NoRepeats once) }
+    ensures all { IfOk result (λ once. All (Contains once) lits.now) }
+{
+    let mut kept = Lits::new(alloc);
+    let mut seen = vec![in alloc; false; 2 * (greatest as usize + 1)]?;
+    for lit in lits {
+        keep(&mut kept, &mut seen, *lit)?;
+    }
+    Ok(kept)
+}

@@ -1,0 +1,217 @@
+//! The solver.
+ghost use Rattle.std.specs.Prelude.{◌≡◌, ◌≤◌, ℕ, List, [], Bool, true, All, IfOk, IfErr, Some, None, length};
+ghost use Rattle.sat_terms.specs.Answer.{IsModel, IsCore};
+ghost use Rattle.solver_api.specs.Given.{GivenTrue, IsClause};
+ghost use Rattle.solver_api.specs.Standing.{Stands};
+
+use crate::calls::{Outcome, Refusal};
+use crate::find::{Found, find};
+use crate::givens::Givens;
+use crate::literals::greatest_of;
+use crate::mode::{Mode, Values};
+use sat_model::lists::Lits;
+use sat_model::literal::Lit;
+use sat_model::memory::Memory;
+use sat_model::truth::lit_true;
+use std::alloc::Global;
+use std::mem;
+
+/// The most literals that a solver takes, over all calls.
+pub const MAX_LITERALS: u64 = 134_217_728;
+
+/// A solver. It is given clauses, and answers queries under assumptions.
+///
+/// The calls and their refusals are those of an IPASIR solver, with these rules. An accepted `add` or `assume` takes the answer
+/// of the last solve away. A refusal other than `Memory` changes nothing. After `Memory` no answer is shown, and what was given is
+/// as before; a solve that was refused has dropped its assumptions, and another call keeps them.
+pub struct Solver {
+    alloc: Global,
+    given: Givens,
+    pending: Lits,
+    queried: Lits,
+    taken: u64,
+    settled: bool,
+    greatest: u32,
+    mode: Mode,
+    ghost stands: { ∥ Stands given pending queried taken greatest settled mode ∥₁ },
+}
+
+impl Drop for Solver {
+    fn drop(self) {
+        let Solver {
+            alloc: _alloc,
+            given: _given,
+            pending: _pending,
+            queried: _queried,
+            taken: _taken,
+            settled: _settled,
+            greatest: _greatest,
+            mode: _mode,
+        } = self;
+    }
+}
+
+impl Solver {
+    ghost use Rattle.solver_api.specs.declared.calls.Call.TheVariants as calls;
+    ghost use Rattle.solver_api.specs.Steps.{Step, state, unused, done, solved, model_of, core_of, val_of, failed_of};
+
+    /// A solver that was given nothing. It keeps the allocator.
+    pub fn new(alloc: Global) -> Result<Solver, Memory>
+        ensures { IfOk result (λ s. state s ≡ unused) }
+    {
+        Ok(Solver {
+            alloc,
+            given: Givens::new(alloc),
+            pending: Lits::new(alloc),
+            queried: Lits::new(alloc),
+            taken: 0,
+            settled: false,
+            greatest: 0,
+            mode: Mode::Input,
+        })
+    }
+
+    /// Gives the clause of these literals, which may repeat and be opposite. The empty clause settles the solver.
+    ///
+    /// `TooManyLiterals(c)` exactly where `c`, the literals handed over so far and these, is above 2^27; nothing changes. After
+    /// `Memory` no answer is shown, and all else is as before.
+    pub fn add(&mut self, lits: &[Lit]) -> Result<(), Refusal>
+        ensures { Step (state self.old) (calls.Add lits.now) (done result) (state self.new) }
+    {
+        let count = lits.len() as u64;
+        if count > MAX_LITERALS - self.taken {
+            return Err(Refusal::TooManyLiterals(self.taken + count));
+        }
+        self.mode = Mode::Input;
+        let Ok(clause) = Lits::from_slice(self.alloc, lits) else {
+            return Err(Refusal::Memory);
+        };
+        if self.given.push(clause).is_err() {
+            return Err(Refusal::Memory);
+        }
+        self.greatest = greatest_of(self.greatest, lits);
+        self.taken += count;
+        self.settled = self.settled || lits.is_empty();
+        Ok(())
+    }
+
+    /// Assumes the literal for the next solve.
+    ///
+    /// `TooManyLiterals(c)` exactly where `c`, the literals handed over so far and this one, is above 2^27; nothing changes. After
+    /// `Memory` no answer is shown, and all else is as before.
+    pub fn assume(&mut self, lit: Lit) -> Result<(), Refusal>
+        ensures { Step (state self.old) (calls.Assume lit) (done result) (state self.new) }
+    {
+        if self.taken >= MAX_LITERALS {
+            return Err(Refusal::TooManyLiterals(self.taken + 1));
+        }
+        self.mode = Mode::Input;
+        if self.pending.push(lit).is_err() {
+            return Err(Refusal::Memory);
+        }
+        self.greatest = self.greatest.max(lit.var().index());
+        self.taken += 1;
+        Ok(())
+    }
+
+    /// Looks for a model of what was given and of the pending assumptions. `Sat` shows the model, and `Unsat` shows a core: some of
+    /// the assumptions, none twice, that no model of what was given makes true. The core is empty where what was given has no model,
+    /// and that settles the solver: every later query is `Unsat` with the empty core at once.
+    ///
+    /// The one refusal is `Memory`: no answer is shown, and the pending assumptions are dropped.
+    pub fn solve(&mut self) -> Result<Outcome, Refusal>
+        ensures { Step (state self.old) calls.Solve (solved result) (state self.new) }
+    {
+        let found = find(
+            self.alloc,
+            &self.given,
+            self.pending.as_slice(),
+            self.greatest,
+            self.settled,
+        );
+        self.mode = Mode::Input;
+        let pending = mem::replace(&mut self.pending, Lits::new(self.alloc));
+        match found {
+            Ok(Found::Model(values)) => {
+                self.queried = pending;
+                self.mode = Mode::Sat(values);
+                Ok(Outcome::Sat)
+            }
+            Ok(Found::Core(core)) => {
+                self.queried = pending;
+                self.settled = self.settled || core.as_slice().is_empty();
+                self.mode = Mode::Unsat(core);
+                Ok(Outcome::Unsat)
+            }
+            Err(Memory) => Err(Refusal::Memory),
+        }
+    }
+
+    /// Whether the literal is true in the model that the last solve found. `NotSat` exactly where no model is shown.
+    pub fn val(&self, lit: Lit) -> Result<bool, Refusal>
+        ensures { result ≡ val_of (model_of (state self.now).mode) lit }
+    {
+        Ok(lit_true(self.model()?, lit))
+    }
+
+    /// Whether the literal stands in the core that the last solve found. `NotUnsat` exactly where no core is shown.
+    pub fn failed(&self, lit: Lit) -> Result<bool, Refusal>
+        ensures { result ≡ failed_of (core_of (state self.now).mode) lit }
+    {
+        Ok(self.core()?.iter().any(|l| *l == lit))
+    }
+
+    /// The model that the last solve found. `NotSat` exactly where no model is shown.
+    pub fn model(&self) -> Result<&[bool], Refusal>
+        ensures shown { IfOk result (λ m. model_of (state self.now).mode ≡ Some m.now) }
+        ensures good { IfOk result (λ m. IsModel (GivenTrue (state self.now).given) (state self.now).queried (state self.now).greatest m.now) }
+        ensures few { IfOk result (λ m. length m.now ≤ 4194303) }
+        ensures none { IfErr result (λ e. (e ≡ Refusal.NotSat) × (model_of (state self.now).mode ≡ None)) }
+    {
+        match &self.mode {
+            Mode::Sat(values) => Ok(values.as_slice()),
+            Mode::Input | Mode::Unsat(_) => Err(Refusal::NotSat),
+        }
+    }
+
+    /// The core that the last solve found. `NotUnsat` exactly where no core is shown.
+    pub fn core(&self) -> Result<&[Lit], Refusal>
+        ensures shown { IfOk result (λ c. core_of (state self.now).mode ≡ Some c.now) }
+        ensures good { IfOk result (λ c. IsCore (GivenTrue (state self.now).given) (state self.now).queried c.now) }
+        ensures none { IfErr result (λ e. (e ≡ Refusal.NotUnsat) × (core_of (state self.now).mode ≡ None)) }
+    {
+        match &self.mode {
+            Mode::Unsat(core) => Ok(core.as_slice()),
+            Mode::Input | Mode::Sat(_) => Err(Refusal::NotUnsat),
+        }
+    }
+
+    /// What was given, in order.
+    pub fn given(&self) -> &Givens
+        ensures { result.now ≡ (state self.now).given }
+    {
+        &self.given
+    }
+
+    /// The assumptions for the next solve, in order.
+    pub fn assumed(&self) -> &[Lit]
+        ensures { result.now ≡ (state self.now).pending }
+    {
+        self.pending.as_slice()
+    }
+
+    /// The assumptions of the last solve that was not refused, in order.
+    pub fn queried(&self) -> &[Lit]
+        ensures { result.now ≡ (state self.now).queried }
+    {
+        self.queried.as_slice()
+    }
+
+    /// How many literals accepted calls have handed over.
+    pub fn taken(&self) -> u64
+        ensures count { result ≡ (state self.now).taken }
+        ensures few { result ≤ MAX_LITERALS }
+    {
+        self.taken
+    }
+}
