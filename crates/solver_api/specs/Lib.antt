@@ -2,3 +2,4 @@ pub mod Given
 pub mod Standing
 pub mod Steps
 pub mod Finds
+pub mod Once

@@ -1,6 +1,7 @@
 //! Lists of literals.
-ghost use Rattle.std.specs.Prelude.{◌≡◌, ◌≤◌, max, IfOk};
+ghost use Rattle.std.specs.Prelude.{◌≡◌, ◌≤◌, ◌<◌, max, IfOk, OnOk, All, Contains, length};
 ghost use Rattle.sat_terms.specs.Answer.{Within, greatest_var, IsSubsequence, NoRepeats};
+ghost use Rattle.solver_api.specs.Once.{AddsOnce, Marks};
 
 use sat_model::lists::Lits;
 use sat_model::literal::Lit;
@@ -21,6 +22,22 @@ pub fn greatest_of(most: u32, lits: &[Lit]) -> u32
     greatest
 }
 
+// Appends a literal where it is not there yet, and marks it by its code.
+fn keep(kept: &mut Lits, marks: &mut [bool], lit: Lit) -> Result<(), Memory>
+    requires room { lit < length marks.old }
+    requires marked { Marks marks.old kept.old }
+    ensures adds { OnOk result (AddsOnce kept.old kept.new lit) }
+    ensures marked { OnOk result (Marks marks.new kept.new) }
+{
+    let at = lit.code() as usize;
+    if marks[at] {
+        return Ok(());
+    }
+    kept.push(lit)?;
+    marks[at] = true;
+    Ok(())
+}
+
 // The literals, each at its first place alone.
 pub fn without_repeats(alloc: Global, lits: &[Lit], greatest: u32) -> Result<Lits, Memory>
     requires few { greatest ≤ 4194303 }
@@ -30,9 +47,9 @@ pub fn without_repeats(alloc: Global, lits: &[Lit], greatest: u32) -> Result<Lit
     ensures all { IfOk result (λ once. All (Contains once) lits.now) }
 {
     let mut kept = Lits::new(alloc);
-    let mut seen = vec![in alloc; false; 2 * (greatest as usize + 1)]?;
+    let mut marks = vec![in alloc; false; 2 * (greatest as usize + 1)]?;
     for lit in lits {
-        keep(&mut kept, &mut seen, *lit)?;
+        keep(&mut kept, &mut marks, *lit)?;
     }
     Ok(kept)
 }
