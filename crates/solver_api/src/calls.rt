@@ -1,8 +1,11 @@
 //! The calls of a solver and their answers.
+ghost use Rattle.std.specs.Prelude.{◌≡◌};
+ghost use Rattle.solver_api.specs.declared.calls.Refusal.TheVariants as refusals;
 
 use sat_model::constraint::Kind;
 use sat_model::lists::Lits;
 use sat_model::literal::Lit;
+use sat_model::memory::Memory;
 use thiserror::Error;
 
 /// A call that changes a solver.
@@ -52,4 +55,12 @@ pub enum Refusal {
     /// Want of memory.
     #[error("out of memory")]
     Memory,
+}
+
+impl From<Memory> for Refusal {
+    ghost from_gives = { λ _ e. e ≡ refusals.Memory };
+
+    fn from(_e: Memory) -> Refusal {
+        Refusal::Memory
+    }
 }

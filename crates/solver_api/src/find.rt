@@ -7,7 +7,6 @@ ghost use Rattle.solver_api.specs.Finds.{Finds};
 use crate::givens::Givens;
 use crate::literals::without_repeats;
 use crate::mode::Values;
-use plain_search::search::search;
 use sat_model::lists::Lits;
 use sat_model::literal::Lit;
 use sat_model::memory::Memory;
@@ -38,11 +37,11 @@ pub fn find(
     if settled {
         return Ok(Found::Core(Lits::new(alloc)));
     }
-    match search(alloc, given, assumed, vars)? {
+    match given.search(alloc, assumed, vars)? {
         Some(values) => return Ok(Found::Model(Values::new(values))),
         None => {}
     }
-    match search(alloc, given, &[], vars)? {
+    match given.search(alloc, &[], vars)? {
         Some(_) => {}
         None => return Ok(Found::Core(Lits::new(alloc))),
     }

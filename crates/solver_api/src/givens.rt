@@ -1,8 +1,9 @@
 //! The list of what was given.
-ghost use Rattle.std.specs.Prelude.{◌≡◌, ◌==◌, ◌<◌, [], ◌∷◌, ◌++◌, length, OnOk, OnErr, slice_get, Some, All};
+ghost use Rattle.std.specs.Prelude.{◌≡◌, ◌==◌, ◌<◌, [], ◌∷◌, ◌++◌, length, OnOk, OnErr, slice_get, Some, All, ◌≤◌, IfOk, IfSome, IfNone};
 ghost use Rattle.solver_api.specs.declared.givens.GivenPart.TheVariants as parts;
 
 use plain_search::clause_list::ClauseList;
+use plain_search::search::search;
 use sat_model::constraint::Constraint;
 use sat_model::lists::Lits;
 use sat_model::literal::Lit;
@@ -39,7 +40,8 @@ impl Model for Givens {
 }
 
 impl Givens {
-    ghost use Rattle.solver_api.specs.Given.{IsClause};
+    ghost use Rattle.sat_terms.specs.Answer.{Within, IsModel, NoModel};
+    ghost use Rattle.solver_api.specs.Given.{GivenTrue, IsClause, clauses_in};
 
     // The empty list.
     pub(crate) fn new(alloc: Global) -> Givens
@@ -57,6 +59,23 @@ impl Givens {
     {
         self.parts.push(GivenPart::Clause(clause))?;
         Ok(())
+    }
+
+    // A model of the parts and the assumptions over the variables 1 to `vars`, if there is one.
+    pub(crate) fn search(
+        &self,
+        alloc: Global,
+        assumed: &[Lit],
+        vars: u32,
+    ) -> Result<Option<Vec<bool>>, Memory>
+        requires few { vars ≤ 4194303 }
+        requires within { All (Within vars) (clauses_in self.now) }
+        requires assumed_within { Within vars assumed.now }
+        ensures model { IfOk result (λ found. IfSome found (λ m. IsModel (GivenTrue self.now) assumed.now vars m.items)) }
+        ensures none { IfOk result (λ found. IfNone found (NoModel (GivenTrue self.now) assumed.now)) }
+    {
+        let _parts = &self.parts;
+        search(alloc, self, assumed, vars)
     }
 
     /// How many parts there are.
@@ -90,11 +109,12 @@ impl ClauseList for Givens {
     ghost clauses = { λ g. clauses_in g };
 
     fn len(&self) -> usize {
-        self.parts.len()
+        self.parts.as_slice().len()
     }
 
     fn clause(&self, k: usize) -> &[Lit] {
-        match &self.parts[k] {
+        let parts = self.parts.as_slice();
+        match &parts[k] {
             GivenPart::Clause(lits) => lits.as_slice(),
             GivenPart::Rule(_) => unreachable!(),
         }

@@ -1,5 +1,6 @@
 //! Lists of literals.
-ghost use Rattle.std.specs.Prelude.{◌≡◌, ◌≤◌, ◌<◌, max, IfOk, OnOk, All, Contains, length};
+ghost use Rattle.std.specs.Prelude.{◌≡◌, ◌≤◌, ◌<◌, ◌||◌, ◌==◌, max, IfOk, OnOk, All, Contains, length};
+ghost use Rattle.sat_terms.specs.Literal.{has};
 ghost use Rattle.sat_terms.specs.Answer.{Within, greatest_var, IsSubsequence, NoRepeats};
 ghost use Rattle.solver_api.specs.Once.{AddsOnce, Marks};
 
@@ -22,12 +23,27 @@ pub fn greatest_of(most: u32, lits: &[Lit]) -> u32
     greatest
 }
 
+// Whether the literal is one of these.
+pub fn stands_in(lits: &[Lit], lit: Lit) -> bool
+    ensures { result ≡ has lits.now lit }
+{
+    lits.iter().any(|l| *l == lit)
+}
+
+// Whether a solver is settled that was settled or not, once these literals are a clause or a core.
+pub fn settles(settled: bool, lits: &[Lit]) -> bool
+    ensures { result ≡ (settled || (length lits.now == 0)) }
+{
+    settled || lits.is_empty()
+}
+
 // Appends a literal where it is not there yet, and marks it by its code.
-fn keep(kept: &mut Lits, marks: &mut [bool], lit: Lit) -> Result<(), Memory>
-    requires room { lit < length marks.old }
-    requires marked { Marks marks.old kept.old }
+fn keep(kept: &mut Lits, marks: &mut Vec<bool>, lit: Lit) -> Result<(), Memory>
+    requires room { lit < length marks.old.items }
+    requires marked { Marks marks.old.items kept.old }
     ensures adds { OnOk result (AddsOnce kept.old kept.new lit) }
-    ensures marked { OnOk result (Marks marks.new kept.new) }
+    ensures marked { OnOk result (Marks marks.new.items kept.new) }
+    ensures room { length marks.new.items ≡ length marks.old.items }
 {
     let at = lit.code() as usize;
     if marks[at] {

@@ -1,13 +1,13 @@
 //! The solver.
 ghost use Rattle.std.specs.Prelude.{◌≡◌, ◌≤◌, ℕ, List, [], Bool, true, All, IfOk, IfErr, Some, None, length};
-ghost use Rattle.sat_terms.specs.Answer.{IsModel, IsCore};
+ghost use Rattle.sat_terms.specs.Answer.{IsModel, NoModel};
 ghost use Rattle.solver_api.specs.Given.{GivenTrue, IsClause};
 ghost use Rattle.solver_api.specs.Standing.{Stands};
 
 use crate::calls::{Outcome, Refusal};
 use crate::find::{Found, find};
 use crate::givens::Givens;
-use crate::literals::greatest_of;
+use crate::literals::{greatest_of, settles, stands_in};
 use crate::mode::{Mode, Values};
 use sat_model::lists::Lits;
 use sat_model::literal::Lit;
@@ -33,7 +33,7 @@ pub struct Solver {
     settled: bool,
     greatest: u32,
     mode: Mode,
-    ghost stands: { ∥ Stands given pending queried taken greatest settled mode ∥₁ },
+    ghost stands: { Stands given pending queried taken greatest settled mode },
 }
 
 impl Drop for Solver {
@@ -83,15 +83,11 @@ impl Solver {
             return Err(Refusal::TooManyLiterals(self.taken + count));
         }
         self.mode = Mode::Input;
-        let Ok(clause) = Lits::from_slice(self.alloc, lits) else {
-            return Err(Refusal::Memory);
-        };
-        if self.given.push(clause).is_err() {
-            return Err(Refusal::Memory);
-        }
+        let clause = Lits::from_slice(self.alloc, lits)?;
+        self.given.push(clause)?;
         self.greatest = greatest_of(self.greatest, lits);
         self.taken += count;
-        self.settled = self.settled || lits.is_empty();
+        self.settled = settles(self.settled, lits);
         Ok(())
     }
 
@@ -106,9 +102,7 @@ impl Solver {
             return Err(Refusal::TooManyLiterals(self.taken + 1));
         }
         self.mode = Mode::Input;
-        if self.pending.push(lit).is_err() {
-            return Err(Refusal::Memory);
-        }
+        self.pending.push(lit)?;
         self.greatest = self.greatest.max(lit.var().index());
         self.taken += 1;
         Ok(())
@@ -122,28 +116,26 @@ impl Solver {
     pub fn solve(&mut self) -> Result<Outcome, Refusal>
         ensures { Step (state self.old) calls.Solve (solved result) (state self.new) }
     {
-        let found = find(
-            self.alloc,
-            &self.given,
-            self.pending.as_slice(),
-            self.greatest,
-            self.settled,
-        );
         self.mode = Mode::Input;
         let pending = mem::replace(&mut self.pending, Lits::new(self.alloc));
-        match found {
-            Ok(Found::Model(values)) => {
+        match find(
+            self.alloc,
+            &self.given,
+            pending.as_slice(),
+            self.greatest,
+            self.settled,
+        )? {
+            Found::Model(values) => {
                 self.queried = pending;
                 self.mode = Mode::Sat(values);
                 Ok(Outcome::Sat)
             }
-            Ok(Found::Core(core)) => {
+            Found::Core(core) => {
                 self.queried = pending;
-                self.settled = self.settled || core.as_slice().is_empty();
+                self.settled = settles(self.settled, core.as_slice());
                 self.mode = Mode::Unsat(core);
                 Ok(Outcome::Unsat)
             }
-            Err(Memory) => Err(Refusal::Memory),
         }
     }
 
@@ -158,7 +150,7 @@ impl Solver {
     pub fn failed(&self, lit: Lit) -> Result<bool, Refusal>
         ensures { result ≡ failed_of (core_of (state self.now).mode) lit }
     {
-        Ok(self.core()?.iter().any(|l| *l == lit))
+        Ok(stands_in(self.core()?, lit))
     }
 
     /// The model that the last solve found. `NotSat` exactly where no model is shown.
@@ -177,7 +169,7 @@ impl Solver {
     /// The core that the last solve found. `NotUnsat` exactly where no core is shown.
     pub fn core(&self) -> Result<&[Lit], Refusal>
         ensures shown { IfOk result (λ c. core_of (state self.now).mode ≡ Some c.now) }
-        ensures good { IfOk result (λ c. IsCore (GivenTrue (state self.now).given) (state self.now).queried c.now) }
+        ensures good { IfOk result (λ c. NoModel (GivenTrue (state self.now).given) c.now) }
         ensures none { IfErr result (λ e. (e ≡ Refusal.NotUnsat) × (core_of (state self.now).mode ≡ None)) }
     {
         match &self.mode {
