@@ -5,3 +5,5 @@ pub mod assignment;
 pub mod clause_list;
 pub mod scan;
 pub mod search;
+#[cfg(test)]
+mod tests;

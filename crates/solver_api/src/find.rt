@@ -42,9 +42,7 @@ pub fn find(
         None => {}
     }
     match given.search(alloc, &[], vars)? {
-        Some(_) => {}
-        None => return Ok(Found::Core(Lits::new(alloc))),
+        Some(_) => Ok(Found::Core(without_repeats(alloc, assumed, vars)?)),
+        None => Ok(Found::Core(Lits::new(alloc))),
     }
-    let core = without_repeats(alloc, assumed, vars)?;
-    Ok(Found::Core(core))
 }

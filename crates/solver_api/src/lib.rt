@@ -7,3 +7,5 @@ pub mod givens;
 mod literals;
 pub mod mode;
 pub mod solver;
+#[cfg(test)]
+mod tests;

@@ -19,8 +19,8 @@ impl Model for Values {
 }
 
 impl Values {
-    /// The model that has these truth values.
-    pub fn new(values: Vec<bool>) -> Values
+    // The model that has these truth values.
+    pub(crate) fn new(values: Vec<bool>) -> Values
         ensures { result ≡ values.items }
     {
         Values { values }

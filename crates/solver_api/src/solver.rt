@@ -4,7 +4,7 @@ ghost use Rattle.sat_terms.specs.Answer.{IsModel, NoModel};
 ghost use Rattle.solver_api.specs.Given.{GivenTrue, IsClause};
 ghost use Rattle.solver_api.specs.Standing.{Stands};
 
-use crate::calls::{Outcome, Refusal};
+use crate::calls::{Call, Outcome, Refusal, Reply};
 use crate::find::{Found, find};
 use crate::givens::Givens;
 use crate::literals::{greatest_of, settles, stands_in};
@@ -109,8 +109,8 @@ impl Solver {
     }
 
     /// Looks for a model of what was given and of the pending assumptions. `Sat` shows the model, and `Unsat` shows a core: some of
-    /// the assumptions, none twice, that no model of what was given makes true. The core is empty where what was given has no model,
-    /// and that settles the solver: every later query is `Unsat` with the empty core at once.
+    /// the assumptions, none twice, that no model of what was given makes true. An empty core says that what was given has no model,
+    /// and it settles the solver: every later query is `Unsat` with the empty core at once.
     ///
     /// The one refusal is `Memory`: no answer is shown, and the pending assumptions are dropped.
     pub fn solve(&mut self) -> Result<Outcome, Refusal>
@@ -136,6 +136,26 @@ impl Solver {
                 self.mode = Mode::Unsat(core);
                 Ok(Outcome::Unsat)
             }
+        }
+    }
+
+    /// Does the named call: `add`, `assume` or `solve`. Its refusals are those of that call.
+    pub fn step(&mut self, call: &Call) -> Result<Reply, Refusal>
+        ensures { Step (state self.old) call.now result (state self.new) }
+    {
+        match call {
+            Call::Add(lits) => match self.add(lits.as_slice()) {
+                Ok(()) => Ok(Reply::Done),
+                Err(why) => Err(why),
+            },
+            Call::Assume(lit) => match self.assume(*lit) {
+                Ok(()) => Ok(Reply::Done),
+                Err(why) => Err(why),
+            },
+            Call::Solve => match self.solve() {
+                Ok(outcome) => Ok(Reply::Solved(outcome)),
+                Err(why) => Err(why),
+            },
         }
     }
 

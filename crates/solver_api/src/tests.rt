@@ -1,0 +1,147 @@
+//! Tests of a solver.
+
+use crate::calls::{Call, Outcome, Refusal};
+use crate::solver::Solver;
+use sat_model::constraint::Kind;
+use sat_model::lists::Lits;
+use sat_model::literal::Lit;
+use std::alloc::Global;
+use std::process::Abort;
+use std::test::Fail;
+
+// The literal that is written as this number.
+fn lit(rt: &impl Abort, number: i32) -> Lit {
+    Lit::new(number).expect(rt, "a literal")
+}
+
+// Gives the clause of these numbers.
+fn give(rt: &impl Abort, alloc: Global, solver: &mut Solver, numbers: &[i32]) -> Result<(), Fail> {
+    let mut clause = Lits::new(alloc);
+    for number in numbers {
+        clause.push(lit(rt, *number))?;
+    }
+    solver.add(clause.as_slice())?;
+    Ok(())
+}
+
+// Assumes these numbers and solves: the word `sat` and the model's literals, or the word `unsat` and the core's.
+fn ask(
+    rt: &impl Abort,
+    alloc: Global,
+    solver: &mut Solver,
+    numbers: &[i32],
+) -> Result<String, Fail> {
+    for number in numbers {
+        solver.assume(lit(rt, *number))?;
+    }
+    match solver.solve()? {
+        Outcome::Sat => model_text(alloc, solver.model()?),
+        Outcome::Unsat => core_text(alloc, solver.core()?),
+    }
+}
+
+fn model_text(alloc: Global, model: &[bool]) -> Result<String, Fail> {
+    let mut text = String::from_str(alloc, "sat")?;
+    for value in model {
+        text.push_str(if *value { " 1" } else { " 0" })?;
+    }
+    Ok(text)
+}
+
+fn core_text(alloc: Global, core: &[Lit]) -> Result<String, Fail> {
+    let mut text = String::from_str(alloc, "unsat")?;
+    for lit in core {
+        let word = format!(in alloc; " {}", lit.number())?;
+        text.push_str(word.as_str())?;
+    }
+    Ok(text)
+}
+
+// A step of a script.
+enum Row<'a> {
+    // A clause is given.
+    Give(&'a [i32]),
+    // A query under these assumptions finds this.
+    Ask(&'a [i32], &'a str),
+    // `val` and `failed` of this literal answer so.
+    Look(i32, &'a str),
+}
+
+fn run(rt: &impl Abort, alloc: Global, rows: &[Row]) -> Result<(), Fail> {
+    let mut solver = Solver::new(alloc)?;
+    for row in rows {
+        match row {
+            Row::Give(numbers) => give(rt, alloc, &mut solver, numbers)?,
+            Row::Ask(numbers, text) => {
+                let found = ask(rt, alloc, &mut solver, numbers)?;
+                assert_eq!(rt; found.as_str(), *text);
+            }
+            Row::Look(number, text) => {
+                let at = lit(rt, *number);
+                let found = format!(in alloc; "{:?} {:?}", solver.val(at), solver.failed(at))?;
+                assert_eq!(rt; found.as_str(), *text);
+            }
+        }
+    }
+    Ok(())
+}
+
+#[test]
+fn answers_queries(rt: HostRuntime) -> Result<(), Fail> {
+    let rows = [
+        Row::Look(1, "Err(NotSat) Err(NotUnsat)"),
+        Row::Ask(&[], "sat"),
+        Row::Ask(&[1, -1, 1], "unsat 1 -1"),
+        Row::Give(&[1, 2]),
+        Row::Ask(&[-1], "sat 0 1"),
+        Row::Look(2, "Ok(true) Err(NotUnsat)"),
+        Row::Look(-1, "Ok(true) Err(NotUnsat)"),
+        Row::Ask(&[-1, -2, -1], "unsat -1 -2"),
+        Row::Look(-1, "Err(NotSat) Ok(true)"),
+        Row::Look(3, "Err(NotSat) Ok(false)"),
+        Row::Give(&[-1, 3, 3]),
+        Row::Ask(&[], "sat 1 1 1"),
+        Row::Give(&[-1]),
+        Row::Give(&[-2]),
+        Row::Ask(&[4], "unsat"),
+        Row::Ask(&[5], "unsat"),
+    ];
+    run(&rt, rt.alloc(), &rows)
+}
+
+#[test]
+fn keeps_its_lists(rt: HostRuntime) -> Result<(), Fail> {
+    let alloc = rt.alloc();
+    run(&rt, alloc, &[Row::Give(&[]), Row::Ask(&[5], "unsat")])?;
+    let mut solver = Solver::new(alloc)?;
+    give(&rt, alloc, &mut solver, &[1, 2])?;
+    let assumed = solver.step(&Call::Assume(lit(&rt, 1)));
+    let solved = solver.step(&Call::Solve);
+    let lists = (
+        solver.given().len(),
+        solver.queried().len(),
+        solver.assumed().len(),
+    );
+    let found = format!(in alloc; "{assumed:?} {solved:?} {lists:?} {}", solver.taken())?;
+    assert_eq!(rt; found.as_str(), "Ok(Done) Ok(Solved(Sat)) (1, 1, 0) 3");
+    Ok(())
+}
+
+#[test]
+fn refusals_have_texts(rt: HostRuntime) -> Result<(), Fail> {
+    let alloc = rt.alloc();
+    let rows = [
+        (Refusal::NotSat, "no model"),
+        (Refusal::NotUnsat, "no core"),
+        (Refusal::NotTaken(Kind::Card), "kind not taken"),
+        (
+            Refusal::TooManyLiterals(134_217_729),
+            "too many literals: 134217729",
+        ),
+        (Refusal::Memory, "out of memory"),
+    ];
+    for (refusal, text) in rows {
+        assert_eq!(rt; format!(in alloc; "{refusal}")?.as_str(), text);
+    }
+    Ok(())
+}
