@@ -1,0 +1,6 @@
+pub mod Cutting
+pub mod Left
+pub mod Numbers
+pub mod Reading
+
+pub mod Grammars

@@ -1,0 +1,10 @@
+pub mod Reasons
+pub mod Words
+pub mod Tokens
+pub mod Numbers
+pub mod Grammar
+pub mod Script
+pub mod Outcomes
+pub mod Laws
+pub mod WordState
+pub mod ReadState

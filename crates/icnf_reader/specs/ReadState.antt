@@ -1,0 +1,136 @@
+-- What a reader of items has done.
+use Rattle.std.specs.Prelude.{◌≡◌, ◌≤◌, ℕ, ◌+◌, ◌-◌, Bool, true, false, List, [], ◌∷◌, ◌++◌, length, Result, Ok, Err, IfSome, Some, None}
+use Rattle.std.specs.declared.option.Option.{Option}
+use Rattle.io_edge.specs.Told.{WhereTold}
+use Rattle.io_edge.specs.Lines.{NoLf}
+use Rattle.io_edge.specs.Reading.{rest_of}
+use Rattle.icnf_reader.specs.Tokens.{Token, CutOff}
+use Rattle.icnf_reader.specs.WordState.{WordState, words_at_start, tokens_left, left_over, last_line, TakesLines}
+use Rattle.icnf_reader.specs.Grammar.{max_literals}
+use Rattle.icnf_reader.specs.Script.{Whole, Bad, Stopped}
+use Rattle.icnf_reader.specs.Outcomes.{Point, Outcome, reads, doing, follow, nothing, put_item, start}
+use Rattle.icnf_reader.specs.declared.item.Mode.{Mode}
+use Rattle.icnf_reader.specs.declared.item.Mode.TheVariants.{Start, Kind, Between, InClause, InQuery}
+use Rattle.icnf_reader.specs.declared.item.Item.{Item}
+use Rattle.icnf_reader.specs.declared.item.Item.TheVariants as item
+use Rattle.icnf_reader.specs.declared.item.Why.TheVariants.{HeaderExpected, NotClosed}
+use Rattle.icnf_reader.specs.declared.reader.Stop.{Stop}
+use Rattle.icnf_reader.specs.declared.reader.Stop.TheVariants as stop
+
+-- the words, where in the grammar they stand, and whether an end or a stop was answered
+pub record ReadState : Type 0 where
+  pub words : WordState
+  pub point : Point
+  pub done : Bool
+
+-- a reader of which nothing was asked yet
+abbrev pub at_start : ReadState
+at_start = record { words = words_at_start; point = start; done = false }
+
+-- how many literals the items have that were given so far
+abbrev pub given : Point → ℕ
+given p = p.count - length p.lits
+
+-- how many literals an item has
+abbrev pub lits_in : Item → ℕ
+lits_in (item.Clause ls) = length ls
+lits_in (item.Query ls) = length ls
+lits_in i = 0
+
+-- no literal stands outside a statement
+abbrev pub NoneOutside : Mode → List ℕ → Type 0
+NoneOutside InClause lits = Unit {0}
+NoneOutside InQuery lits = Unit {0}
+NoneOutside mode lits = lits ≡ []
+
+-- what holds of each reader
+pub record IsSound (words : WordState) (mode : Mode) (lits : List ℕ) (count : ℕ) (done : Bool) : Type 0 where
+  pub few : count ≤ max_literals
+  pub counted : length lits ≤ count
+  pub closed : NoneOutside mode lits
+  pub going : done ≡ false → words.lines.done ≡ false
+
+-- what the bytes still to come say
+abbrev pub outcome : ReadState → List ℕ → Outcome
+outcome s rest = reads (tokens_left s.words rest) s.point (last_line s.words rest)
+
+-- an item other than the end
+abbrev pub IsPart : Item → Type 0
+IsPart item.End = ⊥
+IsPart i = Unit {0}
+
+-- how many literals come with an item, or with none
+abbrev pub lits_of : Option Item → ℕ
+lits_of (Some i) = lits_in i
+lits_of None = 0
+
+-- the answer where no word is left and the last line has this number
+abbrev pub end_answer : Mode → ℕ → Result Item Stop
+end_answer Start last = Err (stop.Bad last HeaderExpected)
+end_answer Between last = Ok item.End
+end_answer mode last = Err (stop.Bad last NotClosed)
+
+-- what comes of one word, whatever the words after it say
+abbrev pub Takes : ℕ → List ℕ → Point → Point → Result (Option Item) Stop → Type 0
+Takes n w p q (Ok None) = (go : Point → Outcome) → follow (doing p.mode w) n p go ≡ go q
+Takes n w p q (Ok (Some i)) = IsPart i × ((go : Point → Outcome) → follow (doing p.mode w) n p go ≡ put_item i (go q))
+Takes n w p q (Err (stop.Bad k why)) = (go : Point → Outcome) → follow (doing p.mode w) n p go ≡ nothing (Bad k why)
+Takes n w p q (Err stop.ReadFault) = ⊥
+Takes n w p q (Err stop.Memory) = Unit {0}
+
+-- an item is given, and the others are still to come
+abbrev pub GivesItem : ReadState → ReadState → Item → List ℕ → List ℕ → Type 0
+GivesItem old new i before after = outcome old before ≡ put_item i (outcome new after)
+
+-- what a reader of items answers
+abbrev pub ReadAnswers : ReadState → ReadState → Option (List ℕ) → Option (List ℕ) → Result Item Stop → Type 0
+ReadAnswers old new left left' (Ok item.End) = WhereTold (rest_of old.words.lines left) (rest_of new.words.lines left') (λ before after. (outcome old before ≡ nothing Whole) × (after ≡ []))
+ReadAnswers old new left left' (Ok (item.Header h)) = WhereTold (rest_of old.words.lines left) (rest_of new.words.lines left') (GivesItem old new (item.Header h))
+ReadAnswers old new left left' (Ok (item.Clause ls)) = WhereTold (rest_of old.words.lines left) (rest_of new.words.lines left') (GivesItem old new (item.Clause ls))
+ReadAnswers old new left left' (Ok (item.Query ls)) = WhereTold (rest_of old.words.lines left) (rest_of new.words.lines left') (GivesItem old new (item.Query ls))
+ReadAnswers old new left left' (Err (stop.Bad n why)) = IfSome (rest_of old.words.lines left) (λ rest. outcome old rest ≡ nothing (Bad n why))
+ReadAnswers old new left left' (Err stop.ReadFault) = Unit {0}
+ReadAnswers old new left left' (Err stop.Memory) = Unit {0}
+
+-- whether an answer is the last one
+abbrev pub read_is_last : Result Item Stop → Bool
+read_is_last (Ok item.End) = true
+read_is_last (Ok i) = false
+read_is_last (Err e) = true
+
+-- the same is to come
+abbrev pub SameOutcome : ReadState → ReadState → List ℕ → List ℕ → Type 0
+SameOutcome old new before after = outcome old before ≡ outcome new after
+
+-- the end
+abbrev pub IsEndItem : Item → Type 0
+IsEndItem item.End = Unit {0}
+IsEndItem i = ⊥
+
+-- what lines and tokens that are still to come say
+abbrev pub over : ReadState → List (List ℕ) → List Token → ℕ → Outcome
+over s others tail last = reads (left_over s.words others ++ tail) s.point last
+
+-- Lines were taken, and what they and those behind them say is this of what those behind them say, whatever these are.
+pub record LeadsOver (old new : ReadState) (f : Outcome → Outcome) (before after : List ℕ) : Type 0 where
+  pub pieces : List (List ℕ)
+  pub taken : TakesLines pieces new.words.lines.ended before after
+  pub leads : (others : List (List ℕ)) (tail : List Token) (last : ℕ) → over old (pieces ++ others) tail last ≡ f (over new others tail last)
+
+-- Reading was cut off: the lines that were taken close no item, and behind them no LF was taken.
+pub record StopsOver (old : ReadState) (before after : List ℕ) : Type 0 where
+  pub pieces : List (List ℕ)
+  pub part : List ℕ
+  pub taken : TakesLines pieces false before (part ++ after)
+  pub no_end : NoLf part
+  pub none : (last : ℕ) → over old pieces (CutOff ∷ []) last ≡ nothing Stopped
+  pub going : old.words.lines.ended ≡ false
+
+-- which lines were taken
+abbrev pub ReadsOver : ReadState → ReadState → Option (List ℕ) → Option (List ℕ) → Result Item Stop → Type 0
+ReadsOver old new left left' (Ok item.End) = Unit {0}
+ReadsOver old new left left' (Ok (item.Header h)) = WhereTold (rest_of old.words.lines left) (rest_of new.words.lines left') (LeadsOver old new (put_item (item.Header h)))
+ReadsOver old new left left' (Ok (item.Clause ls)) = WhereTold (rest_of old.words.lines left) (rest_of new.words.lines left') (LeadsOver old new (put_item (item.Clause ls)))
+ReadsOver old new left left' (Ok (item.Query ls)) = WhereTold (rest_of old.words.lines left) (rest_of new.words.lines left') (LeadsOver old new (put_item (item.Query ls)))
+ReadsOver old new left left' (Err stop.ReadFault) = WhereTold (rest_of old.words.lines left) (rest_of new.words.lines left') (StopsOver old)
+ReadsOver old new left left' (Err e) = Unit {0}
