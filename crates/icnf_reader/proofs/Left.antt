@@ -45,7 +45,7 @@ told_left (Some x) (Some y) f p = f x y p
 pub lt_is : (a b : ℕ) → a < b → ltb a b ≡ true
 lt_is a b h = grind (arith, nat_tests)
 
-lt_is_not : (a b : ℕ) → b ≤ a → ltb a b ≡ false
+pub lt_is_not : (a b : ℕ) → b ≤ a → ltb a b ≡ false
 lt_is_not a b h = grind (arith, nat_tests)
 
 le_is : (a b : ℕ) → a ≤ b → leb a b ≡ true
