@@ -1,7 +1,6 @@
 -- The statements that ended among words are those that the words close.
-use Rattle.std.proofs.Common.{◌≡◌, ◌∙◌, sym, ap, refl, subst, arith, ⊎_elim, inl, inr, zero, suc, ℕ, ◌+◌, ◌<◌, ◌≤◌, List, [], ◌∷◌, ◌++◌, length, Option, Some, None}
-use Rattle.std.specs.Prelude.{◌⊎◌, ◌≢◌, min}
-use Rattle.std.proofs.lemmas.List.{length-append}
+use Rattle.std.proofs.Common.{◌≡◌, ◌∙◌, sym, ap, refl, subst, arith, ⊎_elim, inl, inr, ℕ, ◌≤◌, List, [], ◌∷◌, ◌++◌, length, Some}
+use Rattle.std.specs.Prelude.{◌⊎◌, ◌≢◌}
 use Rattle.icnf_reader.specs.Grammar.{Statement, IsFit, LongestFit, NoneFit, Ended}
 use Rattle.icnf_reader.specs.Outcomes.{Point, doing, start, statements_of}
 use Rattle.icnf_reader.specs.declared.item.Mode.{Mode}
@@ -64,9 +63,9 @@ close_step w ws p m e = ⊎_elim
     (λ (b : NeverCloses ws (moved (doing p.mode w) p)).
     let not : (moved (doing p.mode w) p).mode ≢ Between = λ is. b.never [] ws refl (ap Some is) in
     let nothing : said (w ∷ ws) p ≡ [] = ⊎_elim
-        (λ (none : emitted (doing p.mode w) p ≡ []). ap (λ y. y ++ said ws (moved (doing p.mode w) p)) none ∙ b.none)
-        (λ (is : (moved (doing p.mode w) p).mode ≡ Between). absurd (not is))
-        (emits (doing p.mode w) p) in
+    (λ (none : emitted (doing p.mode w) p ≡ []). ap (λ y. y ++ said ws (moved (doing p.mode w) p)) none ∙ b.none)
+    (λ (is : (moved (doing p.mode w) p).mode ≡ Between). absurd (not is))
+    (emits (doing p.mode w) p) in
     ⊎_elim
     (λ (is : p.mode ≡ Between). inl (record {
       front = [];

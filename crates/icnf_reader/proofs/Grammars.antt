@@ -1,84 +1,29 @@
 -- The laws that tie what a reader gives turn by turn to the grammar over the whole list of words.
-use Rattle.std.proofs.Common.{◌≡◌, ◌∙◌, sym, ap, refl, subst, arith, ⊎_elim, inl, inr, zero, suc, ℕ, ◌+◌, ◌<◌, ◌≤◌, Bool, true, false, List, [], ◌∷◌, ◌++◌, length, Option, Some, None, append_assoc}
-use Rattle.std.specs.Prelude.{◌⊎◌, ◌≢◌, ◌&&◌, codes, map, min, nat_lt, nat_le, if◌then◌else◌}
+use Rattle.std.proofs.Common.{◌≡◌, ◌∙◌, sym, ap, refl, subst, arith, ⊎_elim, inl, inr, ℕ, ◌+◌, ◌<◌, ◌≤◌, Bool, true, false, List, [], ◌∷◌, ◌++◌, length, Option, Some, None}
+use Rattle.std.specs.Prelude.{◌≢◌, ◌&&◌, codes, map, nat_lt, nat_le, if◌then◌else◌}
 use Rattle.std.specs.Str.{bytes_eq}
 use Rattle.std.proofs.lemmas.Bool.{cases_lt}
-use Rattle.std.proofs.lemmas.List.{append-nil, map-append}
-use Rattle.io_edge.specs.Lines.{lines, line_text, max_line, max_input}
+use Rattle.std.proofs.lemmas.List.{append-nil}
+use Rattle.io_edge.specs.Lines.{line_text, max_line, max_input}
 use Rattle.icnf_reader.specs.Words.{line_words}
 use Rattle.icnf_reader.specs.Numbers.{place_of}
 use Rattle.icnf_reader.specs.Tokens.{Token, Word, Fault, CutOff, tokens}
-use Rattle.icnf_reader.specs.Grammar.{Statement, IsFit, IsPartial, IsBadWord, Ended, reason, reason_inside, end_reason, count_at, literal_count, max_literals}
-use Rattle.icnf_reader.specs.Script.{Ending, Whole, Bad, Stopped, texts, word_tokens, InOrder, IsFault, IsWhole, IsBad, IsStopped, Says, EndedIn, text_tokens, last_line_of}
-use Rattle.icnf_reader.specs.Outcomes.{Point, Outcome, doing, in_statement, opened, follow, reads, nothing, at_end, start, statements_of}
-use Rattle.icnf_reader.specs.Laws.{Gives, TextIsSaid, TextIsGiven, CutIsSaid, CutIsGiven}
-use Rattle.icnf_reader.specs.declared.item.Item.{Item}
+use Rattle.icnf_reader.specs.Grammar.{Statement, IsPartial, IsBadWord, Ended, reason, reason_inside, end_reason, count_at, literal_count, max_literals}
+use Rattle.icnf_reader.specs.Script.{Ending, Whole, Bad, Stopped, texts, word_tokens, InOrder, IsFault, IsWhole, IsBad, IsStopped, Says, text_tokens, last_line_of}
+use Rattle.icnf_reader.specs.Outcomes.{Outcome, doing, in_statement, follow, reads, nothing, at_end, start, statements_of}
+use Rattle.icnf_reader.specs.Laws.{IsOutcome, TextIsSaid, TextIsGiven, CutIsSaid, CutIsGiven}
 use Rattle.icnf_reader.specs.declared.item.Why.{Why}
-use Rattle.icnf_reader.specs.declared.item.Why.TheVariants.{HeaderExpected, UnexpectedWord, OutOfRange, NotClosed, TooManyLiterals, LineTooLong, InputTooLong}
+use Rattle.icnf_reader.specs.declared.item.Why.TheVariants.{HeaderExpected, TooManyLiterals, LineTooLong, InputTooLong}
 use Rattle.icnf_reader.specs.declared.item.Mode.{Mode}
 use Rattle.icnf_reader.specs.declared.item.Mode.TheVariants.{Start, Kind, Between, InClause, InQuery}
 use Rattle.icnf_reader.specs.declared.item.LitWord.{LitWord}
 use Rattle.icnf_reader.specs.declared.item.LitWord.TheVariants.{Zero, Literal, Large, Other}
 use Rattle.icnf_reader.specs.declared.item.Meaning.{Meaning}
 use Rattle.icnf_reader.specs.declared.item.Meaning.TheVariants.{Enters, Adds, Closes, Wrong}
-use Rattle.icnf_reader.proofs.Modes.{leads, lead_on, modes, bool_cases, word_a, fit_leads, leads_fit, partial_somewhere, leads_partial, one_more}
-use Rattle.icnf_reader.proofs.Said.{moved, said, after, put_items, run, after_mode, after_count, counts, added, follow_full, fit_says}
+use Rattle.icnf_reader.proofs.Modes.{leads, modes, word_a, fit_leads, leads_fit, partial_somewhere, leads_partial, one_more}
+use Rattle.icnf_reader.proofs.Ranks.{rank, ranks}
+use Rattle.icnf_reader.proofs.Said.{said, after, put_items, run, after_mode, after_count, counts, added, follow_full, fit_says}
 use Rattle.icnf_reader.proofs.Ended.{ended_is, ended_once}
-
--- How many of the two words of the header stand before a place, where a place behind the header counts as 2.
-abbrev rank : Mode → ℕ
-rank Start = 0
-rank Kind = 1
-rank mode = 2
-
-rank_on : (m : Mode) (w : List ℕ) (k : Mode) → leads m (doing m w) ≡ Some k → rank k ≡ min 2 (rank m + 1)
-rank_on Start w k e = on (bytes_eq w (codes "p")) e
-  where
-    on : (b : Bool) → leads Start (if b then Enters Kind else Wrong HeaderExpected) ≡ Some k → rank k ≡ 1
-    on true f = let x : Kind ≡ k = cc in ap rank (sym x)
-    on false f = cc
-rank_on Kind w k e = on (bytes_eq w (codes "inccnf")) e
-  where
-    on : (b : Bool) → leads Kind (if b then Closes else Wrong HeaderExpected) ≡ Some k → rank k ≡ 2
-    on true f = let x : Between ≡ k = cc in ap rank (sym x)
-    on false f = cc
-rank_on Between w k e = on (bytes_eq w word_a) (place_of w) e
-  where
-    on : (b : Bool) (x : LitWord) → leads Between (if b then Enters InQuery else in_statement x) ≡ Some k → rank k ≡ 2
-    on true x f = let y : InQuery ≡ k = cc in ap rank (sym y)
-    on false Zero f = let y : Between ≡ k = cc in ap rank (sym y)
-    on false (Literal l) f = let y : InClause ≡ k = cc in ap rank (sym y)
-    on false Large f = cc
-    on false Other f = cc
-rank_on InClause w k e = on (place_of w) e
-  where
-    on : (x : LitWord) → leads InClause (in_statement x) ≡ Some k → rank k ≡ 2
-    on Zero f = let y : Between ≡ k = cc in ap rank (sym y)
-    on (Literal l) f = let y : InClause ≡ k = cc in ap rank (sym y)
-    on Large f = cc
-    on Other f = cc
-rank_on InQuery w k e = on (place_of w) e
-  where
-    on : (x : LitWord) → leads InQuery (in_statement x) ≡ Some k → rank k ≡ 2
-    on Zero f = let y : Between ≡ k = cc in ap rank (sym y)
-    on (Literal l) f = let y : InQuery ≡ k = cc in ap rank (sym y)
-    on Large f = cc
-    on Other f = cc
-
-rank_few : (m : Mode) → rank m ≤ 2
-rank_few Start = omega arith
-rank_few Kind = omega arith
-rank_few Between = omega arith
-rank_few InClause = omega arith
-rank_few InQuery = omega arith
-
-ranks : (ws : List (List ℕ)) (m k : Mode) → modes ws m ≡ Some k → rank k ≡ min 2 (rank m + length ws)
-ranks [] m k e = let x : m ≡ k = cc in omega (arith, ap rank x, rank_few m)
-ranks (w ∷ ws) m k e = go (leads m (doing m w)) refl (λ o f. ranks ws o k f)
-  where
-    go : (o : Option Mode) → leads m (doing m w) ≡ o → ((j : Mode) → modes ws j ≡ Some k → rank k ≡ min 2 (rank j + length ws)) → rank k ≡ min 2 (rank m + length (w ∷ ws))
-    go None is on = let x : None ≡ Some k = ap (lead_on (modes ws)) (sym is) ∙ e in cc
-    go (Some j) is on = omega (arith, on j (ap (lead_on (modes ws)) (sym is) ∙ e), rank_on m w j is)
 
 -- a word that leads nowhere is wrong
 none_wrong : (m : Mode) (mean : Meaning) → leads m mean ≡ None → (why : Why) × (mean ≡ Wrong why)
@@ -153,7 +98,7 @@ from_start before m ts last e few = run before start m ts last e (omega arith)
 
 -- what comes of what stands behind, where nothing is given there
 none_behind : (before : List (ℕ × List ℕ)) (m : Mode) (all ts : List Token) (last : ℕ) (end : Ending) → all ≡ word_tokens before ++ ts → modes (texts before) Start ≡ Some m → literal_count (texts before) ≤ max_literals
-    → reads ts (after (texts before) start) last ≡ nothing end → Gives (reads all start last) (statements_of (said (texts before) start)) end
+    → reads ts (after (texts before) start) last ≡ nothing end → IsOutcome (reads all start last) (statements_of (said (texts before) start)) end
 none_behind before m all ts last end cut e few is =
     let x = ap (λ l. reads l start last) cut ∙ from_start before m ts last e few ∙ ap (put_items (said (texts before) start)) is in
     (ap (λ (o : Outcome). statements_of o.items) x ∙ ap statements_of (append-nil (said (texts before) start)), ap (λ (o : Outcome). o.ending) x)
@@ -182,10 +127,10 @@ full_gives ws m w n ts last k e is few full =
 
 -- the same statements, where they ended among the words
 same_statements : (ws : List (List ℕ)) (m : Mode) (o : Outcome) (ss : List Statement) (end : Ending) → modes ws Start ≡ Some m → Ended ws ss
-    → Gives o (statements_of (said ws start)) end → Gives o ss end
+    → IsOutcome o (statements_of (said ws start)) end → IsOutcome o ss end
 same_statements ws m o ss end e ended g = (g.0 ∙ ended_once ws (statements_of (said ws start)) ss (ended_is ws m e) ended, g.1)
 
-whole_given : (all : List Token) (last : ℕ) (ss : List Statement) → IsWhole all ss → Gives (reads all start last) ss Whole
+whole_given : (all : List Token) (last : ℕ) (ss : List Statement) → IsWhole all ss → IsOutcome (reads all start last) ss Whole
 whole_given all last ss s =
     let ws = texts s.words in
     let e = fit_leads ws ss s.fit in
@@ -215,14 +160,14 @@ fault_given before (Word k w ∷ ts) last n why m e few f = ⊎_elim
         let same : y.0 ≡ why = wrong_reason (texts before) m w y.0 e y.1 ∙ sym b.reason_is in
         wrong_gives (texts before) m w k ts last y.0 e y.1 ∙ ap (λ j. nothing (Bad j y.0)) (sym f.0) ∙ ap (λ z. nothing (Bad n z)) same
 
-bad_given : (all : List Token) (last : ℕ) (ss : List Statement) (n : ℕ) (why : Why) → IsBad all last ss n why → Gives (reads all start last) ss (Bad n why)
+bad_given : (all : List Token) (last : ℕ) (ss : List Statement) (n : ℕ) (why : Why) → IsBad all last ss n why → IsOutcome (reads all start last) ss (Bad n why)
 bad_given all last ss n why s =
     let ws = texts s.before in
     let o = partial_somewhere ws s.in_order.partial in
     same_statements ws o.0 (reads all start last) ss (Bad n why) o.1 s.in_order.ended
     (none_behind s.before o.0 all s.behind last (Bad n why) s.cut o.1 s.in_order.few (fault_given s.before s.behind last n why o.0 o.1 s.in_order.few s.fault))
 
-stopped_given : (all : List Token) (last : ℕ) (ss : List Statement) → IsStopped all ss → Gives (reads all start last) ss Stopped
+stopped_given : (all : List Token) (last : ℕ) (ss : List Statement) → IsStopped all ss → IsOutcome (reads all start last) ss Stopped
 stopped_given all last ss s =
     let ws = texts s.before in
     let o = partial_somewhere ws s.in_order.partial in
@@ -230,13 +175,13 @@ stopped_given all last ss s =
     (none_behind s.before o.0 all (CutOff ∷ s.behind) last Stopped s.cut o.1 s.in_order.few refl)
 
 -- what the tokens say is what is given
-given_is : (all : List Token) (last : ℕ) (ss : List Statement) (end : Ending) → Says all last ss end → Gives (reads all start last) ss end
+given_is : (all : List Token) (last : ℕ) (ss : List Statement) (end : Ending) → Says all last ss end → IsOutcome (reads all start last) ss end
 given_is all last ss Whole s = whole_given all last ss s
 given_is all last ss (Bad n why) s = bad_given all last ss n why s
 given_is all last ss Stopped s = stopped_given all last ss s
 
 -- what is said of the tokens, where it is known what is given
-said_as : (all : List Token) (last : ℕ) (ss : List Statement) (end : Ending) → Gives (reads all start last) ss end → Says all last ss end
+said_as : (all : List Token) (last : ℕ) (ss : List Statement) (end : Ending) → IsOutcome (reads all start last) ss end → Says all last ss end
     → Says all last (statements_of (reads all start last).items) (reads all start last).ending
 said_as all last ss end g s =
     let P : List Statement → Type 0 = λ x. Says all last x (reads all start last).ending in
@@ -303,14 +248,17 @@ said_from (Word n w ∷ ts) before m all last cut e few = go (leads m (doing m w
           behind = Word n w ∷ ts;
           cut = cut;
           in_order = in_order_is (texts before) m e few;
-          fault = (refl, inl (record {
-            good = leads_partial (texts before) m e;
-            bad = λ p. let k = partial_somewhere (texts before ++ w ∷ []) p in let x : None ≡ Some k.0 = sym is ∙ sym (one_more (texts before) w m e) ∙ k.1 in cc;
-            reason_is = wrong_reason (texts before) m w y.0 e y.1;
-          }));
+          fault = (
+            refl,
+            inl (record {
+              good = leads_partial (texts before) m e;
+              bad = λ p. let k = partial_somewhere (texts before ++ w ∷ []) p in let x : None ≡ Some k.0 = sym is ∙ sym (one_more (texts before) w m e) ∙ k.1 in cc;
+              reason_is = wrong_reason (texts before) m w y.0 e y.1;
+            }),
+          );
         } in
         said_as all last _ (Bad n y.0) (bad_given all last _ n y.0 s) s
-    go (Some k) is on = 
+    go (Some k) is on =
         let next = one_more (texts before) w m e ∙ is in
         ⊎_elim
         (λ (full : max_literals < literal_count (texts before ++ w ∷ [])).

@@ -1,21 +1,21 @@
 -- The tokens that are left, from turn to turn.
-use Rattle.std.proofs.Common.{◌≡◌, ◌∙◌, sym, ap, refl, arith, cond, subst, ⊎_elim, ℕ, ◌+◌, ◌<◌, ◌≤◌, Bool, true, false, List, [], ◌∷◌, ◌++◌, length, Some, None, leb, ltb, Ok, inl, inr}
-use Rattle.std.specs.Prelude.{map, max, ◌⊎◌, IfSome, ◌&&◌}
+use Rattle.std.proofs.Common.{◌≡◌, ◌∙◌, sym, ap, refl, arith, subst, ⊎_elim, ℕ, ◌+◌, ◌<◌, ◌≤◌, Bool, true, false, List, [], ◌∷◌, ◌++◌, length, Some, None, leb, ltb, Ok, inl, inr}
+use Rattle.std.specs.Prelude.{map, max, ◌⊎◌, IfSome}
 use Rattle.std.specs.declared.option.Option.{Option}
 use Rattle.std.specs.Io.KnownBytes.{IsAtEnd}
 use Rattle.std.proofs.lemmas.Bool.{cases_lt}
 use Rattle.std.proofs.lemmas.Bool.Decides.{nat_tests}
 use Rattle.io_edge.specs.Told.{WhereTold}
 use Rattle.io_edge.specs.Lines.{lines, line_text, Fits, IsTooLong, IsTooMuch, max_line, max_input}
-use Rattle.io_edge.specs.Reading.{LineState, rest_of, GivesLine, StopsAtLine, TakesPart, Answers}
+use Rattle.io_edge.specs.Reading.{LineState, rest_of, GivesLine, TakesPart, Answers}
 use Rattle.io_edge.specs.declared.lines.LineStop.TheVariants as stop
 use Rattle.std.specs.Prelude.{Err}
 use Rattle.io_edge.specs.declared.lines.LineGot.{LineGot}
 use Rattle.io_edge.specs.declared.lines.LineGot.TheVariants.{Line}
 use Rattle.icnf_reader.specs.Words.{line_words}
-use Rattle.icnf_reader.specs.Tokens.{Token, Word, Fault, tokens}
+use Rattle.icnf_reader.specs.Tokens.{Word, Fault, tokens}
 use Rattle.icnf_reader.specs.declared.item.Why.TheVariants.{LineTooLong, InputTooLong}
-use Rattle.icnf_reader.specs.WordState.{WordState, tokens_left, left_over, last_line, SameLeft, GivesWord, GivesEnd, TakesLines, BreaksOff, flat}
+use Rattle.icnf_reader.specs.WordState.{WordState, left_over, SameLeft, GivesWord, TakesLines, BreaksOff, flat}
 use Rattle.std.proofs.Common.{append_assoc}
 use Rattle.std.proofs.lemmas.List.{append-nil}
 use Rattle.std.proofs.lemmas.Bool.{false≢true}

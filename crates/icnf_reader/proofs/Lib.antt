@@ -1,8 +1,9 @@
 pub mod Cutting
 pub mod Left
-pub mod Numbers
+pub mod Digits
 pub mod Reading
 pub mod Modes
+pub mod Ranks
 pub mod Said
 pub mod Ended
 pub mod Grammars

@@ -2,7 +2,6 @@
 use Rattle.std.proofs.Common.{◌≡◌, ◌∙◌, sym, ap, refl, subst, ℕ, List, ◌∷◌, Option, Some, None, Ok, Err, rules}
 use Rattle.io_edge.specs.Told.{WhereTold}
 use Rattle.io_edge.specs.Reading.{rest_of}
-use Rattle.icnf_reader.specs.Tokens.{Token, Word}
 use Rattle.icnf_reader.specs.Outcomes.{Point, Outcome, reads, doing, follow, put_item, nothing, at_end, start, text_reads, statements_of}
 use Rattle.icnf_reader.specs.Script.{text_tokens}
 use Rattle.icnf_reader.specs.Grammar.{Clause, Query}
@@ -10,10 +9,9 @@ use Rattle.io_edge.specs.Lines.{lines}
 use Rattle.icnf_reader.specs.declared.item.Mode.{Mode}
 use Rattle.icnf_reader.specs.declared.item.Mode.TheVariants.{Start, Kind, Between, InClause, InQuery}
 use Rattle.icnf_reader.specs.WordState.{WordState, GivesWord, GivesEnd, tokens_left, left_over, last_line, WordAnswers, TakesLines, BreaksOff}
-use Rattle.icnf_reader.specs.ReadState.{ReadState, outcome, Takes, ReadAnswers, SameOutcome, GivesItem, IsPart, over, LeadsOver, StopsOver, ReadsOver, read_is_last, end_answer, at_start}
+use Rattle.icnf_reader.specs.ReadState.{ReadState, outcome, Takes, ReadAnswers, SameOutcome, GivesItem, over, LeadsOver, StopsOver, ReadsOver, read_is_last, end_answer, at_start}
 use Rattle.icnf_reader.specs.declared.item.Item.{Item}
 use Rattle.icnf_reader.specs.declared.item.Item.TheVariants as item
-use Rattle.icnf_reader.specs.declared.words.WordGot.{WordGot}
 use Rattle.icnf_reader.specs.declared.words.WordGot.TheVariants as got
 use Rattle.icnf_reader.specs.declared.words.WordStop.TheVariants as stop
 use Rattle.icnf_reader.specs.Tokens.{CutOff}

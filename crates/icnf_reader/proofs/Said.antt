@@ -1,14 +1,14 @@
 -- What words say to one who stands at a point: the items that they close, and the point behind them.
-use Rattle.std.proofs.Common.{◌≡◌, ◌∙◌, sym, ap, refl, subst, arith, ⊎_elim, inl, inr, zero, suc, ℕ, ◌+◌, ◌<◌, ◌≤◌, Bool, true, false, List, [], ◌∷◌, ◌++◌, length, Option, Some, None, append_assoc, ltb}
-use Rattle.std.specs.Prelude.{◌⊎◌, ◌≢◌, codes, map, min, if◌then◌else◌}
+use Rattle.std.proofs.Common.{◌≡◌, ◌∙◌, sym, ap, refl, subst, arith, ⊎_elim, inl, inr, ℕ, ◌+◌, ◌<◌, ◌≤◌, true, false, List, [], ◌∷◌, ◌++◌, Some, None, append_assoc}
+use Rattle.std.specs.Prelude.{◌⊎◌, codes, if◌then◌else◌}
 use Rattle.std.specs.Str.{bytes_eq}
 use Rattle.std.proofs.lemmas.List.{append-nil}
 use Rattle.std.proofs.lemmas.Slice.Eq.{bytes_eq-Decides}
 use Rattle.icnf_reader.specs.Numbers.{place_of}
-use Rattle.icnf_reader.specs.Tokens.{Token, Word}
+use Rattle.icnf_reader.specs.Tokens.{Token}
 use Rattle.icnf_reader.specs.Grammar.{Statement, Clause, Query, AreLits, AreWordsOf, AreStatements, IsFit, count_at, literal_count, max_literals}
 use Rattle.icnf_reader.specs.Script.{Bad, texts, word_tokens}
-use Rattle.icnf_reader.specs.Outcomes.{Point, Outcome, doing, in_statement, opened, closed, follow, reads, nothing, start, statements_of, inc_header}
+use Rattle.icnf_reader.specs.Outcomes.{Point, Outcome, doing, in_statement, opened, closed, follow, reads, nothing, start, statements_of}
 use Rattle.icnf_reader.specs.declared.item.Item.{Item}
 use Rattle.icnf_reader.specs.declared.item.Item.TheVariants as item
 use Rattle.icnf_reader.specs.declared.item.Why.TheVariants.{TooManyLiterals, HeaderExpected}

@@ -3,7 +3,7 @@
 use Rattle.std.specs.Prelude.{◌≡◌, ◌≤◌, ◌⊎◌, ℕ, ◌+◌, List, [], ◌∷◌, ◌++◌, length, codes}
 use Rattle.icnf_reader.specs.Numbers.{place_of}
 use Rattle.icnf_reader.specs.declared.item.LitWord.{LitWord}
-use Rattle.icnf_reader.specs.declared.item.LitWord.TheVariants.{Zero, Literal, Large, Other}
+use Rattle.icnf_reader.specs.declared.item.LitWord.TheVariants.{Zero, Literal, Large}
 use Rattle.icnf_reader.specs.declared.item.Why.{Why}
 use Rattle.icnf_reader.specs.declared.item.Why.TheVariants.{HeaderExpected, UnexpectedWord, OutOfRange, NotClosed}
 

@@ -1,6 +1,6 @@
--- What tokens say to one who reads them in order and keeps where in the grammar they stand. The laws of proofs/Grammars tie it
--- to the grammar over the whole list of words.
-use Rattle.std.specs.Prelude.{◌≡◌, ℕ, ◌+◌, ◌==◌, nat_lt, max, Bool, if◌then◌else◌, List, [], ◌∷◌, ◌++◌, length, codes}
+-- What tokens say to one who reads them in order and keeps where in the grammar they stand. The laws of specs/Laws tie it to
+-- the grammar over the whole list of words.
+use Rattle.std.specs.Prelude.{ℕ, ◌+◌, nat_lt, if◌then◌else◌, List, [], ◌∷◌, ◌++◌, codes}
 use Rattle.std.specs.Str.{bytes_eq}
 use Rattle.icnf_reader.specs.Tokens.{Token, Word, Fault, CutOff}
 use Rattle.icnf_reader.specs.Numbers.{place_of}
@@ -10,7 +10,6 @@ use Rattle.icnf_reader.specs.declared.item.Header.{Header}
 use Rattle.icnf_reader.specs.declared.item.HeadKind.TheVariants.{Inc}
 use Rattle.icnf_reader.specs.Script.{Ending, Whole, Bad, Stopped, text_tokens, last_line_of}
 use Rattle.icnf_reader.specs.Grammar.{Statement, Clause, Query, max_literals}
-use Rattle.icnf_reader.specs.declared.item.Why.{Why}
 use Rattle.icnf_reader.specs.declared.item.Why.TheVariants.{HeaderExpected, UnexpectedWord, OutOfRange, NotClosed, TooManyLiterals}
 use Rattle.icnf_reader.specs.declared.item.Mode.{Mode}
 use Rattle.icnf_reader.specs.declared.item.LitWord.{LitWord}
@@ -105,3 +104,9 @@ statements_of (item.Header h ∷ is) = statements_of is
 statements_of (item.Clause ls ∷ is) = Clause ls ∷ statements_of is
 statements_of (item.Query ls ∷ is) = Query ls ∷ statements_of is
 statements_of (item.End ∷ is) = statements_of is
+
+-- the items of statements
+abbrev pub items_of : List Statement → List Item
+items_of [] = []
+items_of (Clause ls ∷ ss) = item.Clause ls ∷ items_of ss
+items_of (Query ls ∷ ss) = item.Query ls ∷ items_of ss

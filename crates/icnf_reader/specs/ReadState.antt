@@ -1,5 +1,5 @@
 -- What a reader of items has done.
-use Rattle.std.specs.Prelude.{◌≡◌, ◌≤◌, ℕ, ◌+◌, ◌-◌, Bool, true, false, List, [], ◌∷◌, ◌++◌, length, Result, Ok, Err, IfSome, Some, None}
+use Rattle.std.specs.Prelude.{◌≡◌, ◌≤◌, ℕ, ◌-◌, Bool, true, false, List, [], ◌∷◌, ◌++◌, length, Result, Ok, Err, IfSome, Some, None}
 use Rattle.std.specs.declared.option.Option.{Option}
 use Rattle.io_edge.specs.Told.{WhereTold}
 use Rattle.io_edge.specs.Lines.{NoLf}
@@ -10,7 +10,7 @@ use Rattle.icnf_reader.specs.Grammar.{max_literals}
 use Rattle.icnf_reader.specs.Script.{Whole, Bad, Stopped}
 use Rattle.icnf_reader.specs.Outcomes.{Point, Outcome, reads, doing, follow, nothing, put_item, start}
 use Rattle.icnf_reader.specs.declared.item.Mode.{Mode}
-use Rattle.icnf_reader.specs.declared.item.Mode.TheVariants.{Start, Kind, Between, InClause, InQuery}
+use Rattle.icnf_reader.specs.declared.item.Mode.TheVariants.{Start, Between, InClause, InQuery}
 use Rattle.icnf_reader.specs.declared.item.Item.{Item}
 use Rattle.icnf_reader.specs.declared.item.Item.TheVariants as item
 use Rattle.icnf_reader.specs.declared.item.Why.TheVariants.{HeaderExpected, NotClosed}

@@ -3,7 +3,7 @@ use Rattle.std.specs.Prelude.{◌≡◌, ℕ, ◌+◌, ◌-◌, ◌*◌, ◌^◌
 use Rattle.std.specs.declared.option.Option.{Option}
 use Rattle.io_edge.specs.Told.{WhereTold}
 use Rattle.io_edge.specs.Lines.{lines, NoLf}
-use Rattle.io_edge.specs.Reading.{LineState, rest_of}
+use Rattle.io_edge.specs.Reading.{LineState, fresh, rest_of}
 use Rattle.icnf_reader.specs.Tokens.{Token, Word, Fault, tokens}
 use Rattle.icnf_reader.specs.declared.words.WordGot.{WordGot}
 use Rattle.icnf_reader.specs.declared.words.WordGot.TheVariants as got
@@ -18,7 +18,7 @@ pub record WordState : Type 0 where
 
 -- a reader of words of which nothing was asked yet
 abbrev pub words_at_start : WordState
-words_at_start = record { lines = record { ahead = []; line = []; number = 0; used = 0; ended = false; done = false }; pending = []; text = [] }
+words_at_start = record { lines = fresh; pending = []; text = [] }
 
 -- the tokens still to come, where these are the lines still to come
 abbrev pub left_over : WordState → List (List ℕ) → List Token

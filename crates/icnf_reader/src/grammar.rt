@@ -1,6 +1,6 @@
 //! What a reader gives turn by turn is what the grammar over the whole list of words says. These functions do nothing: their
 //! contracts are the laws that tie the two, in both directions.
-ghost use Rattle.icnf_reader.specs.Laws.{TextIsSaid, TextIsGiven, CutIsSaid, CutIsGiven};
+ghost use Rattle.icnf_reader.specs.Laws.{TextIsSaid, TextIsGiven, CutIsSaid, CutIsGiven, TextHasHeader};
 
 /// Of each text the grammar says what a reader gives: the statements before the first fault, and how the text ends.
 pub fn text_is_said()
@@ -23,4 +23,9 @@ pub fn cut_is_said()
 /// exactly those that a reader gives.
 pub fn cut_is_given()
     ensures { CutIsGiven }
+{}
+
+/// The header is given first and only there, and behind it nothing but statements is given.
+pub fn text_has_header()
+    ensures { TextHasHeader }
 {}

@@ -3,5 +3,8 @@
 
 pub mod grammar;
 pub mod item;
+pub mod numbers;
 pub mod reader;
+#[cfg(test)]
+mod tests;
 pub mod words;

@@ -1,19 +1,17 @@
 //! The items of a source.
 ghost use Rattle.std.specs.Prelude.{◌≡◌, ◌+◌, ◌<◌, ◌≤◌, ◌^◌, ◌⊎◌, if◌then◌else◌, min, pos, ℕ, List, Bool, true, false, [], length, IfOk, IsErrOf};
 ghost use Rattle.std.specs.Str.{bytes_eq};
-ghost use Rattle.std.specs.List.{list_all};
 ghost use Rattle.std.specs.Io.KnownBytes.{IsAtEnd};
 ghost use Rattle.io_edge.specs.Causes.{Rose};
 ghost use Rattle.icnf_reader.specs.Outcomes.{start as start_point, doing, in_statement, opened, closed};
-ghost use Rattle.icnf_reader.specs.Numbers.{place_of, negative_place, unsigned_place, are_digits, number_from, is_digit};
 ghost use Rattle.icnf_reader.specs.ReadState.{Takes, ReadAnswers, ReadsOver, read_is_last, IsEndItem, at_start, given, lits_in, lits_of, end_answer};
 ghost use Rattle.icnf_reader.specs.WordState.{word_fuel};
 
 use crate::item::{HeadKind, Header, Item, LitWord, Meaning, Mode, Why};
+use crate::numbers::literal_word;
 use crate::words::{WordGot, WordReader, WordStop};
 use io_edge::outside::Source;
 use sat_model::lists::Lits;
-use sat_model::literal::Lit;
 use sat_model::memory::Memory;
 use std::alloc::Global;
 use std::marker::Model;
@@ -61,7 +59,7 @@ impl Model for Reader {
     ghost invariant = { λ s. IsSound s.words s.mode s.lits s.count s.done };
 }
 
-// What a word does.
+// What a word does where a reader stands.
 fn meaning_of(mode: Mode, text: &[u8]) -> Meaning
     ensures { result ≡ doing mode text.now }
 {
@@ -91,6 +89,7 @@ fn meaning_of(mode: Mode, text: &[u8]) -> Meaning
     }
 }
 
+// What a word does in a statement.
 fn meaning_inside(word: LitWord) -> Meaning
     ensures { result ≡ in_statement word }
 {
@@ -102,6 +101,7 @@ fn meaning_inside(word: LitWord) -> Meaning
     }
 }
 
+// Where a literal leads: it opens a clause.
 fn opened_mode(mode: Mode) -> Mode
     ensures { result ≡ opened mode }
 {
@@ -111,6 +111,7 @@ fn opened_mode(mode: Mode) -> Mode
     }
 }
 
+// The item that ends where a reader stands.
 fn closed_item(mode: Mode, lits: Lits) -> Item
     ensures { result ≡ closed mode lits }
 {
@@ -130,75 +131,6 @@ fn end_of(mode: Mode, last: u64) -> Result<Item, Stop>
         Mode::Between => Ok(Item::End),
         Mode::Kind | Mode::InClause | Mode::InQuery => Err(Stop::Bad(last, Why::NotClosed)),
     }
-}
-
-/// What a word is in a literal's place: a literal where its number is not 0 and at most `MAX_VAR` but for its sign, a zero
-/// where it has no sign and its number is 0. Leading zeros are allowed; `-0` and `+5` are neither.
-pub fn literal_word(text: &[u8]) -> LitWord
-    ensures { result ≡ place_of text.now }
-{
-    match text {
-        [] => LitWord::Other,
-        [first, rest @ ..] => {
-            if *first == b'-' {
-                signed_word(rest, true)
-            } else {
-                signed_word(text, false)
-            }
-        }
-    }
-}
-
-// A number word without its sign.
-#[tactic(auto, unfolding(sat_terms::specs::Literal::pos_lit, sat_terms::specs::Literal::neg_lit))]
-fn signed_word(digits: &[u8], negative: bool) -> LitWord
-    ensures { result ≡ (if negative then negative_place digits.now else unsigned_place digits.now) }
-{
-    if !all_digits(digits) {
-        return LitWord::Other;
-    }
-    let value = number_of(digits);
-    if value == 0 {
-        return if negative {
-            LitWord::Other
-        } else {
-            LitWord::Zero
-        };
-    }
-    let number = value as i32;
-    match Lit::new(if negative { -number } else { number }) {
-        Some(lit) => LitWord::Literal(lit),
-        None => LitWord::Large,
-    }
-}
-
-// Whether these are digits.
-fn only_digits(bytes: &[u8]) -> bool
-    ensures { result ≡ list_all is_digit bytes.now }
-{
-    bytes.iter().all(|b| *b >= b'0' && *b <= b'9')
-}
-
-// Whether these are one or more digits.
-fn all_digits(bytes: &[u8]) -> bool
-    ensures { result ≡ are_digits bytes.now }
-{
-    match bytes {
-        [] => false,
-        _ => only_digits(bytes),
-    }
-}
-
-// The number that digits write, or a greater one than any variable.
-fn number_of(digits: &[u8]) -> u32
-    requires { list_all is_digit digits.now ≡ true }
-    ensures { result ≡ min (number_from 0 digits.now) 4194304 }
-{
-    let mut n: u32 = 0;
-    for b in digits {
-        n = (10 * n + (*b - b'0') as u32).min(4_194_304);
-    }
-    n
 }
 
 impl Reader {

@@ -1,5 +1,4 @@
-use Rattle.std.proofs.Common.{◌≡◌, ◌∙◌, subst, sym, ap, arith, Option, Ok, Err, false}
-use Rattle.std.specs.Prelude.{◌⊎◌}
+use Rattle.std.proofs.Common.{◌∙◌, subst, sym, ap, arith, Option, Ok, Err, false}
 use Rattle.io_edge.specs.Told.{WhereTold}
 use Rattle.io_edge.specs.Reading.{rest_of}
 use Rattle.icnf_reader.specs.declared.item.Item.{Item}
@@ -9,7 +8,7 @@ use Rattle.icnf_reader.specs.WordState.{WordAnswers, word_is_last, word_fuel}
 use Rattle.icnf_reader.specs.ReadState.{ReadState, SameOutcome, LeadsOver, Takes, ReadAnswers, ReadsOver, given, lits_of}
 use Rattle.icnf_reader.specs.Outcomes.{Point}
 use Rattle.icnf_reader.proofs.Left.{ended_on}
-use Rattle.icnf_reader.proofs.Reading.{turn_item, turn_on, turn_over, item_over, turn_stops, leads_none, err_last, answer_done, over_done, end_told}
+use Rattle.icnf_reader.proofs.Reading.{turn_item, turn_on, turn_over, item_over, turn_stops, err_last, answer_done, over_done, end_told}
 use Rattle.icnf_reader.proofs.reader.Reader.next.Goals as goal
 
 pub returns-in-Some-clause-answer : goal.returns-in-Some-clause-answer
@@ -82,4 +81,4 @@ returns-in-Ok-End-clause-answer g c =
     let inside = c.self-in-loop-line.inside in
     let point : Point = record { mode = inside.mode; lits = inside.lits; count = inside.count } in
     end_told c.args.self.now (record { words = inside.words; point = point; done = inside.done }) (record { words = c.next.new.self; point = point; done = inside.done }) _ _ _ c.in-Ok-End.last _
-        (subst P (sym c.self-in-loop-line.view_is) c.loop-line.invariant.same) (subst W c.in-Ok-End.field-0-is c.in-Ok-End.ensures.answer) c.end_of.ensures
+    (subst P (sym c.self-in-loop-line.view_is) c.loop-line.invariant.same) (subst W c.in-Ok-End.field-0-is c.in-Ok-End.ensures.answer) c.end_of.ensures

@@ -1,0 +1,133 @@
+ghost use Rattle.std.specs.Prelude.{◌<◌};
+
+use crate::item::{Item, LitWord, Why};
+use crate::numbers::literal_word;
+use crate::reader::{Reader, Stop};
+use io_edge::memory::MemSource;
+use sat_model::lists::Lits;
+use std::alloc::Global;
+use std::fmt::Write;
+use std::test::Fail;
+
+// Appends a letter and the numbers of literals.
+fn push_lits(text: &mut String, letter: &str, lits: &Lits) -> Result<(), Fail> {
+    text.push_str(letter)?;
+    for lit in lits.as_slice() {
+        let number = lit.number();
+        write!(text, " {number}")?;
+    }
+    text.push_str("; ")?;
+    Ok(())
+}
+
+// What a reader gives of an input, up to its last answer.
+fn items(alloc: Global, input: &str, cut: usize, fails: &[u64]) -> Result<String, Fail>
+    requires { 0 < cut }
+{
+    let mut source = MemSource::new(alloc, input.as_bytes(), cut, fails)?;
+    let mut reader = Reader::new(alloc)?;
+    let mut text = String::new(alloc);
+    for _ in 0..20u32 {
+        if reader.is_done() {
+            break;
+        }
+        match reader.next(&mut source) {
+            Ok(Item::Header(header)) => {
+                let kind = header.kind;
+                let vars = header.vars;
+                let clauses = header.clauses;
+                write!(text, "{kind:?} {vars} {clauses}; ")?;
+            }
+            Ok(Item::Clause(lits)) => push_lits(&mut text, "clause", &lits)?,
+            Ok(Item::Query(lits)) => push_lits(&mut text, "query", &lits)?,
+            Ok(Item::End) => text.push_str("end")?,
+            Err(Stop::Bad(line, why)) => {
+                let reason = why.text();
+                write!(text, "line {line}: {reason}")?;
+            }
+            Err(Stop::ReadFault) => text.push_str("read fault")?,
+            Err(Stop::Memory) => text.push_str("no memory")?,
+        }
+    }
+    Ok(text)
+}
+
+#[test]
+fn inputs_have_items_and_faults(rt: HostRuntime) -> Result<(), Fail> {
+    for (input, want) in [
+        (
+            "p inccnf\n1 -2 0\na 3 0\n0\n",
+            "Inc 0 0; clause 1 -2; query 3; clause; end",
+        ),
+        (
+            "p\tinccnf\r\n1\r\nc 7 0\r\n  c\r\n-2 0 a\r\n0\r\n3 0",
+            "Inc 0 0; clause 1 -2; query; clause 3; end",
+        ),
+        ("", "line 1: header expected"),
+        ("\nc p inccnf\n", "line 2: header expected"),
+        ("p cnf 1 1\n1 0\n", "line 1: header expected"),
+        ("p\n\nknf\n", "line 3: header expected"),
+        ("p\n", "line 1: not closed"),
+        ("p inccnf\nk 1 1 0\n", "Inc 0 0; line 2: unexpected word"),
+        (
+            "p inccnf\n1 2\n3\nx 0\n",
+            "Inc 0 0; line 4: unexpected word",
+        ),
+        ("p inccnf\n1 +5 0\n", "Inc 0 0; line 2: unexpected word"),
+        ("p inccnf\n1 -0\n", "Inc 0 0; line 2: unexpected word"),
+        ("p inccnf\n1\x0b2 0\n", "Inc 0 0; line 2: unexpected word"),
+        (
+            "p inccnf\n1 0\na\n-4194304 0\n",
+            "Inc 0 0; clause 1; line 4: number out of range",
+        ),
+        (
+            "p inccnf\n1 0 2\n-3\n",
+            "Inc 0 0; clause 1; line 3: not closed",
+        ),
+        ("p inccnf\na 1", "Inc 0 0; line 2: not closed"),
+    ] {
+        for cut in [1usize, 7, 100000] {
+            let got = items(rt.alloc(), input, cut, &[])?;
+            assert_eq!(rt; got.as_str(), want, "{input}");
+        }
+    }
+    Ok(())
+}
+
+#[test]
+fn what_was_read_before_a_fault_is_given(rt: HostRuntime) -> Result<(), Fail> {
+    let got = items(rt.alloc(), "p inccnf\na 0\n1 0\n2 0", 4, &[4])?;
+    assert_eq!(rt; got.as_str(), "Inc 0 0; query; read fault");
+    Ok(())
+}
+
+#[test]
+fn long_reasons_have_texts(rt: HostRuntime) -> Result<(), Fail> {
+    assert_eq!(rt; Why::LineTooLong.text(), "line too long");
+    assert_eq!(rt; Why::TooManyLiterals.text(), "too many literals");
+    assert_eq!(rt; Why::InputTooLong.text(), "input too long");
+    Ok(())
+}
+
+#[test]
+fn words_are_literals_or_not(rt: HostRuntime) -> Result<(), Fail> {
+    for (word, number) in [("-5", -5), ("4194303", 4194303), ("0007", 7), ("-01", -1)] {
+        match literal_word(word.as_bytes()) {
+            LitWord::Literal(lit) => assert_eq!(rt; lit.number(), number, "{word}"),
+            _ => return Err(Fail::from("no literal")),
+        }
+    }
+    for (word, want) in [
+        ("00", LitWord::Zero),
+        ("4194304", LitWord::Large),
+        ("-99999999999999999999", LitWord::Large),
+        ("-0", LitWord::Other),
+        ("+5", LitWord::Other),
+        ("", LitWord::Other),
+        ("-", LitWord::Other),
+        ("5x", LitWord::Other),
+    ] {
+        assert_eq!(rt; literal_word(word.as_bytes()), want, "{word}");
+    }
+    Ok(())
+}
