@@ -1,0 +1,161 @@
+//! Reconstruction stacks.
+ghost use Rattle.std.specs.Prelude.{◌≡◌, ◌<◌, ◌==◌, ◌↔◌, ◌++◌, [], ◌∷◌, length, OnErr, OnOk, IsTrue, remove, IfSome, IfNone};
+ghost use Rattle.sat_terms.specs.Truth.{values};
+ghost use Rattle.sat_terms.specs.Answer.{Within};
+ghost use Rattle.redundancy.specs.Setting.{IsApart, set_true};
+ghost use Rattle.redundancy.specs.Redundancy.{Clean, IsEntry, IsStack, StackWithin, entry, extend as extension, is_clean as clean_test, touches as touched};
+ghost use Rattle.witness_stack.specs.MarkSet.{NoneTainted, IsFirstTainted};
+
+use crate::entries::{Entries, Entry};
+use crate::marks::Marks;
+use sat_model::literal::Lit;
+use sat_model::memory::Memory;
+use sat_model::truth::clause_true;
+use std::alloc::Global;
+use std::marker::Model;
+
+/// A reconstruction stack (Fazekas, Biere, Scholl, SAT 2019). Contracts see the list of its entries, oldest first. Of each
+/// entry it keeps that the witness holds no opposite literals, that the clause is normal, and that they share a literal.
+#[derive(Drop)]
+pub struct Stack {
+    entries: Entries,
+}
+
+impl Model for Stack {
+    ghost use Rattle.std.specs.Prelude.{List};
+    ghost use Rattle.redundancy.specs.Redundancy.{Entry as EntryOf, IsStack};
+
+    ghost Value = { List EntryOf };
+
+    ghost view = { λ s. s.entries };
+
+    ghost invariant = { λ s. IsStack s.entries };
+}
+
+// Whether a witness holds the negation of one of the literals.
+fn touches(witness: &[Lit], lits: &[Lit]) -> bool
+    ensures { result ≡ touched witness.now lits.now }
+{
+    lits.iter().any(|l| witness.contains(&l.neg()))
+}
+
+// Whether no witness holds the negation of one of the literals.
+fn all_untouched(entries: &[Entry], lits: &[Lit]) -> bool
+    ensures { result ≡ clean_test lits.now entries.now }
+{
+    entries.iter().all(|e| !touches(e.witness(), lits))
+}
+
+// Sets the literals true.
+fn set_all(model: &mut [bool], witness: &[Lit])
+    requires apart { IsApart witness.now }
+    requires within { Within (length model.old) witness.now }
+    ensures { values model.new ≡ set_true (values model.old) witness.now }
+{
+    for lit in witness {
+        model[lit.var().index() as usize - 1] = lit.is_positive();
+    }
+}
+
+impl Stack {
+    /// The empty stack. It takes no memory.
+    pub fn new(alloc: Global) -> Stack
+        ensures { result ≡ [] }
+    {
+        Stack {
+            entries: Entries::new(alloc),
+        }
+    }
+
+    /// How many entries there are.
+    pub fn len(&self) -> usize
+        ensures { result ≡ length self.now }
+    {
+        self.entries.len()
+    }
+
+    /// Whether there is none.
+    pub fn is_empty(&self) -> bool
+        ensures { result ≡ (length self.now == 0) }
+    {
+        self.entries.is_empty()
+    }
+
+    /// What holds of every stack. The call does nothing.
+    pub fn has_witnesses(&self)
+        ensures { IsStack self.now }
+    {
+        let _ = &self.entries;
+    }
+
+    /// Appends an entry as the newest: its witness holds no opposite literals, its clause is normal, and they share a literal.
+    /// After `Memory` the stack is as before.
+    pub fn push(&mut self, witness: &[Lit], clause: &[Lit]) -> Result<(), Memory>
+        requires { IsEntry (record { witness = witness.now; clause = clause.now }) }
+        ensures ok { OnOk result (self.new ≡ self.old ++ record { witness = witness.now; clause = clause.now } ∷ []) }
+        ensures err { OnErr result (self.new ≡ self.old) }
+    {
+        self.entries.push(witness, clause)
+    }
+
+    /// The witness of the entry at a place below `len()`.
+    pub fn witness(&self, k: usize) -> &[Lit]
+        requires { k < length self.now }
+        ensures { result.now ≡ (entry self.now k).witness }
+    {
+        self.entries.witness(k)
+    }
+
+    /// The clause of the entry at a place below `len()`.
+    pub fn clause(&self, k: usize) -> &[Lit]
+        requires { k < length self.now }
+        ensures { result.now ≡ (entry self.now k).clause }
+    {
+        self.entries.clause(k)
+    }
+
+    /// Takes out the entry at a place below `len()`. The others keep their order.
+    pub fn take_out(&mut self, k: usize)
+        requires { k < length self.old }
+        ensures { self.new ≡ remove self.old k }
+    {
+        self.entries.take_out(k);
+    }
+
+    /// Whether the literals are clean: no witness holds the negation of one of them.
+    pub fn is_clean(&self, lits: &[Lit]) -> bool
+        ensures test { result ≡ clean_test lits.now self.now }
+        ensures clean { IsTrue result ↔ Clean lits.now self.now }
+    {
+        all_untouched(self.entries.as_slice(), lits)
+    }
+
+    /// The first entry, at the place `from` or after it, whose witness holds a marked literal. `None` exactly where there is
+    /// no such entry.
+    pub fn next_tainted(&self, from: usize, marks: &Marks) -> Option<usize>
+        ensures none { IfNone result (NoneTainted marks.now self.now from (length self.now)) }
+        ensures some { IfSome result (λ k. IsFirstTainted marks.now self.now from k) }
+    {
+        for k in from..self.entries.len() {
+            if marks.has_any(self.entries.witness(k)) {
+                return Some(k);
+            }
+        }
+        None
+    }
+
+    /// Makes of a model its extension by the stack: from the newest entry to the oldest, where the model makes the clause
+    /// false, the literals of the witness are set true. The model must have the variables of the witnesses.
+    pub fn extend(&self, model: &mut [bool])
+        requires { StackWithin (length model.old) self.now }
+        ensures { values model.new ≡ extension (values model.old) self.now }
+    {
+        let mut k = self.entries.len();
+        while k > 0 {
+            k -= 1;
+            if !clause_true(model, self.entries.clause(k)) {
+                set_all(model, self.entries.witness(k));
+            }
+        }
+    }
+}
