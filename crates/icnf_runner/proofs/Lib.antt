@@ -1,0 +1,3 @@
+pub mod Goods
+pub mod Sessions
+pub mod Runs

@@ -1,0 +1,24 @@
+//! Answers an iCNF text from standard input: each query asks whether the clauses above it have a model under its assumptions.
+#![tactic(auto)]
+
+mod run;
+mod session;
+mod standard;
+#[cfg(test)]
+mod tests;
+
+use crate::run::run;
+use crate::standard::{StdSink, StdSource, words_of};
+use std::io;
+use std::process::ExitCode;
+
+fn main(rt: HostRuntime) -> ExitCode {
+    let alloc = rt.alloc();
+    let Ok(words) = words_of(&rt) else {
+        return ExitCode::from(5);
+    };
+    let mut source = StdSource::new(rt.reader());
+    let mut sink = StdSink::new(io::writer(&rt));
+    let status = run(alloc, &words, &mut source, &mut sink);
+    ExitCode::from(status.code)
+}

@@ -1,0 +1,93 @@
+//! Standard input, standard output and the words of the command line.
+ghost use Rattle.std.specs.Prelude.{None, IfOk, ◌≤◌, length};
+
+use io_edge::outside::{Failed, Sink, Source};
+use sat_model::memory::Memory;
+use std::env;
+use std::io::{self, ErrorKind, Read, Write};
+
+/// A source over a reader, as standard input. It tells no bytes, and counts the reads that failed.
+#[derive(Drop)]
+pub struct StdSource<R: Read + Drop> {
+    reader: R,
+    faults: u64,
+}
+
+impl<R: Read + Drop> StdSource<R> {
+    /// A source that has not failed yet.
+    pub fn new(reader: R) -> StdSource<R> {
+        StdSource { reader, faults: 0 }
+    }
+}
+
+impl<R: Read + Drop> Source for StdSource<R> {
+    ghost left = { λ _. None };
+
+    ghost faults = { λ s. s.faults };
+
+    fn read(&mut self, buf: &mut [u8]) -> Result<usize, Failed> {
+        match self.reader.read(buf) {
+            Ok(count) => Ok(count),
+            Err(_) => {
+                self.faults = self.faults.saturating_add(1);
+                Err(Failed)
+            }
+        }
+    }
+}
+
+/// A sink over a writer, as standard output, that is flushed after each write. It tells no bytes, and counts the writes that
+/// failed. A write that takes no byte has failed.
+#[derive(Drop)]
+pub struct StdSink<W: Write + Drop> {
+    writer: W,
+    faults: u64,
+}
+
+impl<W: Write + Drop> StdSink<W> {
+    /// A sink that has not failed yet.
+    pub fn new(writer: W) -> StdSink<W> {
+        StdSink { writer, faults: 0 }
+    }
+}
+
+// Writes once, and flushes.
+fn put<W: Write>(writer: &mut W, piece: &[u8]) -> io::Result<usize>
+    ensures { IfOk result (λ count. count ≤ length piece.now) }
+{
+    let count = writer.write(piece)?;
+    writer.flush()?;
+    Ok(count)
+}
+
+impl<W: Write + Drop> Sink for StdSink<W> {
+    ghost written = { λ _. None };
+
+    ghost faults = { λ s. s.faults };
+
+    fn write(&mut self, piece: &[u8]) -> Result<usize, Failed> {
+        match put(&mut self.writer, piece) {
+            Ok(count) if count > 0 => Ok(count),
+            _ => {
+                self.faults = self.faults.saturating_add(1);
+                Err(Failed)
+            }
+        }
+    }
+}
+
+/// The words of the command line without the program's name. Where they are not all text they are one empty word, which is
+/// accepted nowhere.
+pub fn words_of(rt: &HostRuntime) -> Result<Vec<String>, Memory> {
+    let mut words = Vec::new(rt.alloc());
+    match env::args(rt) {
+        Ok(args) => {
+            for word in args.skip(1) {
+                words.push(word)?;
+            }
+        }
+        Err(e) if e.kind() == ErrorKind::OutOfMemory => return Err(Memory),
+        Err(_) => words.push(String::new(rt.alloc()))?,
+    }
+    Ok(words)
+}
