@@ -35,14 +35,17 @@ pub fn find(
     ensures { IfOk result (Finds given.now assumed.now vars settled) }
 {
     if settled {
-        return Ok(Found::Core(Lits::new(alloc)));
+        let none = Lits::new(alloc);
+        return Ok(Found::Core(none));
     }
     match given.search(alloc, assumed, vars)? {
         Some(values) => return Ok(Found::Model(Values::new(values))),
         None => {}
     }
     match given.search(alloc, &[], vars)? {
-        Some(_) => Ok(Found::Core(without_repeats(alloc, assumed, vars)?)),
-        None => Ok(Found::Core(Lits::new(alloc))),
+        Some(_) => {}
+        None => return Ok(Found::Core(Lits::new(alloc))),
     }
+    let core = without_repeats(alloc, assumed, vars)?;
+    Ok(Found::Core(core))
 }
