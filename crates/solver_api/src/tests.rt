@@ -58,6 +58,7 @@ fn core_text(alloc: Global, core: &[Lit]) -> Result<String, Fail> {
 }
 
 // A step of a script.
+#[derive(Drop)]
 enum Row<'a> {
     // A clause is given.
     Give(&'a [i32]),
