@@ -85,9 +85,7 @@ GivesItem old new i before after = outcome old before ≡ put_item i (outcome ne
 -- what a reader of items answers
 abbrev pub ReadAnswers : ReadState → ReadState → Option (List ℕ) → Option (List ℕ) → Result Item Stop → Type 0
 ReadAnswers old new left left' (Ok item.End) = WhereTold (rest_of old.words.lines left) (rest_of new.words.lines left') (λ before after. (outcome old before ≡ nothing Whole) × (after ≡ []))
-ReadAnswers old new left left' (Ok (item.Header h)) = WhereTold (rest_of old.words.lines left) (rest_of new.words.lines left') (GivesItem old new (item.Header h))
-ReadAnswers old new left left' (Ok (item.Clause ls)) = WhereTold (rest_of old.words.lines left) (rest_of new.words.lines left') (GivesItem old new (item.Clause ls))
-ReadAnswers old new left left' (Ok (item.Query ls)) = WhereTold (rest_of old.words.lines left) (rest_of new.words.lines left') (GivesItem old new (item.Query ls))
+ReadAnswers old new left left' (Ok i) = WhereTold (rest_of old.words.lines left) (rest_of new.words.lines left') (GivesItem old new i)
 ReadAnswers old new left left' (Err (stop.Bad n why)) = IfSome (rest_of old.words.lines left) (λ rest. outcome old rest ≡ nothing (Bad n why))
 ReadAnswers old new left left' (Err stop.ReadFault) = Unit {0}
 ReadAnswers old new left left' (Err stop.Memory) = Unit {0}
@@ -129,8 +127,6 @@ pub record StopsOver (old : ReadState) (before after : List ℕ) : Type 0 where
 -- which lines were taken
 abbrev pub ReadsOver : ReadState → ReadState → Option (List ℕ) → Option (List ℕ) → Result Item Stop → Type 0
 ReadsOver old new left left' (Ok item.End) = Unit {0}
-ReadsOver old new left left' (Ok (item.Header h)) = WhereTold (rest_of old.words.lines left) (rest_of new.words.lines left') (LeadsOver old new (put_item (item.Header h)))
-ReadsOver old new left left' (Ok (item.Clause ls)) = WhereTold (rest_of old.words.lines left) (rest_of new.words.lines left') (LeadsOver old new (put_item (item.Clause ls)))
-ReadsOver old new left left' (Ok (item.Query ls)) = WhereTold (rest_of old.words.lines left) (rest_of new.words.lines left') (LeadsOver old new (put_item (item.Query ls)))
+ReadsOver old new left left' (Ok i) = WhereTold (rest_of old.words.lines left) (rest_of new.words.lines left') (LeadsOver old new (put_item i))
 ReadsOver old new left left' (Err stop.ReadFault) = WhereTold (rest_of old.words.lines left) (rest_of new.words.lines left') (StopsOver old)
 ReadsOver old new left left' (Err e) = Unit {0}
