@@ -33,11 +33,11 @@ pub times_place : (ids : List ℕ) (id : ℕ) → 0 < times ids id → (k : ℕ)
 times_place [] id h = absurd (omega arith)
 times_place (x ∷ ids) id h =
     elim (cases_eq x id) [
-      inl e ↦ (0, omega arith, e)
-    | inr n ↦
-        let less : times (x ∷ ids) id ≡ times ids id = times-cons x ids id ∙ ap (λ b. cond b 1 0 + times ids id) (ne_eqb x id n) ∙ omega arith in
-        let r = times_place ids id (omega arith) in
-        (suc r.0, omega arith, r.2)
+      | inl e ↦ (0, omega arith, e)
+      | inr n ↦
+          let less : times (x ∷ ids) id ≡ times ids id = times-cons x ids id ∙ ap (λ b. cond b 1 0 + times ids id) (ne_eqb x id n) ∙ omega arith in
+          let r = times_place ids id (omega arith) in
+          (suc r.0, omega arith, r.2)
     ]
 
 -- a number at a place stands in the list
@@ -60,12 +60,12 @@ pub times-rising : (xs : List ℕ) (x : ℕ) → AllPairs (λ a b. a < b) xs →
 times-rising [] x h = refl
 times-rising (y ∷ xs) x h =
     elim (cases_eq y x) [
-      inl e ↦
-        let none : times xs x ≡ 0 = times_none x xs (λ k d lt. let below = h 0 (suc k) d (omega arith) (omega arith) in omega (arith, below)) in
-        times-cons y xs x ∙ ap (λ b. cond b 1 0 + times xs x) (eq-eqb y x e) ∙ omega (arith, none) ∙ ap (λ b. cond b 1 0) (sym (or_left (eqb y x) (has xs x) (eq-eqb y x e)))
-    | inr n ↦
-        let rest = times-rising xs x (λ i j d lt in'. h (suc i) (suc j) d (omega arith) (omega arith)) in
-        times-cons y xs x ∙ ap (λ b. cond b 1 0 + times xs x) (ne_eqb y x n) ∙ zero-add (times xs x) ∙ rest ∙ ap (λ b. cond (b || has xs x) 1 0) (sym (ne_eqb y x n))
+      | inl e ↦
+          let none : times xs x ≡ 0 = times_none x xs (λ k d lt. let below = h 0 (suc k) d (omega arith) (omega arith) in omega (arith, below)) in
+          times-cons y xs x ∙ ap (λ b. cond b 1 0 + times xs x) (eq-eqb y x e) ∙ omega (arith, none) ∙ ap (λ b. cond b 1 0) (sym (or_left (eqb y x) (has xs x) (eq-eqb y x e)))
+      | inr n ↦
+          let rest = times-rising xs x (λ i j d lt in'. h (suc i) (suc j) d (omega arith) (omega arith)) in
+          times-cons y xs x ∙ ap (λ b. cond b 1 0 + times xs x) (ne_eqb y x n) ∙ zero-add (times xs x) ∙ rest ∙ ap (λ b. cond (b || has xs x) 1 0) (sym (ne_eqb y x n))
     ]
 
 -- one gain after another, and a gain that is taken back
@@ -78,8 +78,8 @@ gains_both a b c id n m h k = record {
 pub gains_back : (a b c : List ℕ) (id n : ℕ) → Gains a b id n → Gains c b id n → SameTimes a c
 gains_back a b c id n h k j =
     elim (cases_eq j id) [
-      inl e ↦ rw e (omega (arith, h.here, k.here))
-    | inr x ↦ sym (k.others j x) ∙ h.others j x
+      | inl e ↦ rw e (omega (arith, h.here, k.here))
+      | inr x ↦ sym (k.others j x) ∙ h.others j x
     ]
 
 pub gains_none : (a : List ℕ) (id : ℕ) → Gains a a id 0
@@ -97,11 +97,11 @@ position_none ids id h more =
     let p : ℕ → Bool = λ x. eqb x id in
     let at = times_place ids id more in
     elim (cases_lt at.0 (position_or_len p ids)) [
-      inl lt ↦ false≢true (sym (fails_before_first p ids at.0 0 lt) ∙ eq-eqb (get_or ids at.0 0) id at.2)
-    | inr le ↦
-        let within : position_or_len p ids < length ids = omega (arith, at.1) in
-        let some : position p ids ≡ Some (position_or_len p ids) = ap (λ b. cond b (Some (position_or_len p ids)) None) (lt-ltb (position_or_len p ids) (length ids) within) in
-        cc
+      | inl lt ↦ false≢true (sym (fails_before_first p ids at.0 0 lt) ∙ eq-eqb (get_or ids at.0 0) id at.2)
+      | inr le ↦
+          let within : position_or_len p ids < length ids = omega (arith, at.1) in
+          let some : position p ids ≡ Some (position_or_len p ids) = ap (λ b. cond b (Some (position_or_len p ids)) None) (lt-ltb (position_or_len p ids) (length ids) within) in
+          cc
     ]
 
 -- what follows where a call was refused

@@ -15,24 +15,24 @@ use Rattle.clause_store.proofs.Normals.{normal_none}
 pub once_gained : (p q : ℕ → Bool) (old new : List ℕ) (id more : ℕ) → HasEachOnce p old → Gains old new id more → p id ≡ false → cond (q id) 1 0 ≡ more → ((j : ℕ) → j ≢ id → q j ≡ p j) → HasEachOnce q new
 once_gained p q old new id more h g none same others = record {
   once = λ j.
-    elim (cases_eq j id) [
-      inl e ↦
-        let before : times old id ≡ 0 = h.once id ∙ ap (λ b. cond b 1 0) none in
-        rw e (omega (arith, g.here, before, same))
-    | inr n ↦ g.others j n ∙ h.once j ∙ ap (λ b. cond b 1 0) (sym (others j n))
-    ];
+      elim (cases_eq j id) [
+        | inl e ↦
+            let before : times old id ≡ 0 = h.once id ∙ ap (λ b. cond b 1 0) none in
+            rw e (omega (arith, g.here, before, same))
+        | inr n ↦ g.others j n ∙ h.once j ∙ ap (λ b. cond b 1 0) (sym (others j n))
+      ];
 }
 
 -- the same once one passes no longer
 pub once_lost : (p q : ℕ → Bool) (old new : List ℕ) (id more : ℕ) → HasEachOnce p old → Gains new old id more → q id ≡ false → cond (p id) 1 0 ≡ more → ((j : ℕ) → j ≢ id → q j ≡ p j) → HasEachOnce q new
 once_lost p q old new id more h g none same others = record {
   once = λ j.
-    elim (cases_eq j id) [
-      inl e ↦
-        let before = h.once id in
-        rw (e, none) (omega (arith, g.here, before, same))
-    | inr n ↦ sym (g.others j n) ∙ h.once j ∙ ap (λ b. cond b 1 0) (sym (others j n))
-    ];
+      elim (cases_eq j id) [
+        | inl e ↦
+            let before = h.once id in
+            rw (e, none) (omega (arith, g.here, before, same))
+        | inr n ↦ sym (g.others j n) ∙ h.once j ∙ ap (λ b. cond b 1 0) (sym (others j n))
+      ];
 }
 
 -- how often the lists name a clause

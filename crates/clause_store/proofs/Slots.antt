@@ -23,9 +23,10 @@ FirmTrue-filled {old} {new} {id} {c} f fills h t =
     FirmTrue-from new id f (λ j n. rw (fills.others j n) (h j)) (rw fills.filled t)
 
 pub FirmTrue-before : {old new : List (Option Stored)} {id : ℕ} {c : Stored} (f : Assignment) → Fills old new id c → FirmTrue new f → FirmTrue old f × SlotTrue f (Some c)
-FirmTrue-before {old} {new} {id} {c} f fills h =
-    ( FirmTrue-from old id f (λ j n. rw (fills.others j n) at (h j)) (SlotTrue-none f (slot old id) fills.free)
-    , rw fills.filled at (h id) )
+FirmTrue-before {old} {new} {id} {c} f fills h = (
+  FirmTrue-from old id f (λ j n. rw (fills.others j n) at (h j)) (SlotTrue-none f (slot old id) fills.free),
+  rw fills.filled at (h id),
+)
 
 -- a store with one clause less
 pub FirmTrue-freed : {old new : List (Option Stored)} {id : ℕ} (f : Assignment) → Frees old new id → OthersTrue old id f → FirmTrue new f
@@ -51,9 +52,10 @@ StoreTrue-filled {old} {new} {id} {c} f fills h t j =
     elim (cases_eq j id) [ inl e ↦ rw (e, fills.filled) (λ _. t) | inr n ↦ rw (fills.others j n) (h j) ]
 
 pub StoreTrue-before : {old new : List (Option Stored)} {id : ℕ} {c : Stored} (f : Assignment) → Fills old new id c → StoreTrue new f → StoreTrue old f × (clause_true f c.lits ≡ true)
-StoreTrue-before {old} {new} {id} {c} f fills h =
-    ( (λ j. elim (cases_eq j id) [ inl e ↦ rw (e, fills.free) (λ x. absurd (false≢true x)) | inr n ↦ rw (fills.others j n) at (h j) ])
-    , (rw fills.filled at (h id)) refl )
+StoreTrue-before {old} {new} {id} {c} f fills h = (
+  (λ j. elim (cases_eq j id) [ inl e ↦ rw (e, fills.free) (λ x. absurd (false≢true x)) | inr n ↦ rw (fills.others j n) at (h j) ]),
+  (rw fills.filled at (h id)) refl,
+)
 
 pub StoreTrue-freed : {old new : List (Option Stored)} {id : ℕ} (f : Assignment) → Frees old new id → StoreTrue old f → StoreTrue new f
 StoreTrue-freed {old} {new} {id} f frees h j =

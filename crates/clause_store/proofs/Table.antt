@@ -29,8 +29,8 @@ pub gains_more : (old now new : List (List ℕ)) (lits : List ℕ) (i l id : ℕ
     → (k : ℕ) → Gains (occ_at old k) (occ_at new k) id (times (take (i + 1) lits) k)
 gains_more old now new lits i l id in' read h here others k =
     elim (cases_eq k l) [
-      inl e ↦ rw (e, times_more_same lits i l in' read) (gains_both (occ_at old l) (occ_at now l) (occ_at new l) id (times (take i lits) l) 1 (h l) here)
-    | inr n ↦ rw (others k n, times_more_other lits i l k in' read n) (h k)
+      | inl e ↦ rw (e, times_more_same lits i l in' read) (gains_both (occ_at old l) (occ_at now l) (occ_at new l) id (times (take i lits) l) 1 (h l) here)
+      | inr n ↦ rw (others k n, times_more_other lits i l k in' read n) (h k)
     ]
 
 -- the lists after one literal less
@@ -41,11 +41,11 @@ pub gains_less : (old now new : List (List ℕ)) (lits : List ℕ) (i l id : ℕ
     → (k : ℕ) → Gains (occ_at new k) (occ_at old k) id (times (take (i + 1) lits) k)
 gains_less old now new lits i l id in' read h here others k =
     elim (cases_eq k l) [
-      inl e ↦
-        let both = gains_both (occ_at new l) (occ_at now l) (occ_at old l) id 1 (times (take i lits) l) here (h l) in
-        let more : 1 + times (take i lits) l ≡ times (take (i + 1) lits) l = omega (arith, times_more_same lits i l in' read) in
-        rw (e, ← more) both
-    | inr n ↦ rw (others k n, times_more_other lits i l k in' read n) (h k)
+      | inl e ↦
+          let both = gains_both (occ_at new l) (occ_at now l) (occ_at old l) id 1 (times (take i lits) l) here (h l) in
+          let more : 1 + times (take i lits) l ≡ times (take (i + 1) lits) l = omega (arith, times_more_same lits i l in' read) in
+          rw (e, ← more) both
+      | inr n ↦ rw (others k n, times_more_other lits i l k in' read n) (h k)
     ]
 
 -- an id that is still to be taken out of the list of a literal
@@ -60,11 +60,11 @@ stands_still old now lits i l id in' read h le =
 pub listed_within : (table : List (List ℕ)) (lit code id : ℕ) → code ≡ lit → 0 < times (occ_at table lit) id → code < length table
 listed_within table lit code id same more =
     elim (cases_lt code (length table)) [
-      inl lt ↦ lt
-    | inr le ↦
-        let past : length table ≤ lit = omega (arith, same) in
-        let none : occ_at table lit ≡ [] = get_or_past table lit [] past in
-        absurd (omega (arith, rw none at more))
+      | inl lt ↦ lt
+      | inr le ↦
+          let past : length table ≤ lit = omega (arith, same) in
+          let none : occ_at table lit ≡ [] = get_or_past table lit [] past in
+          absurd (omega (arith, rw none at more))
     ]
 
 -- a write to the list of a literal

@@ -5,7 +5,7 @@ use Rattle.clause_store.proofs.id_list.IdList.remove.Goals as goal
 pub returns-in-Some : goal.returns-in-Some
 returns-in-Some c =
     rw (c.swap_remove.ensures.items, ← c.self.view_is)
-      (gains_taken _ _ _ _ (rw c.as_slice.ensures.value at (sym c.in-Some.ensures)))
+    (gains_taken _ _ _ _ (rw c.as_slice.ensures.value at (sym c.in-Some.ensures)))
 
 pub returns-in_default : goal.returns-in_default
 returns-in_default c =

@@ -5,7 +5,7 @@ use Rattle.clause_store.proofs.store.Store.remove.Goals as goal
 pub remove-requires-clause-table : goal.remove-requires-clause-table
 remove-requires-clause-table c =
     rw (c.keep.ensures, c.lits.ensures)
-      (table_at _ _ _ _ c.self.invariant (rw c.index.ensures at c.remove-clause.ensures.value))
+    (table_at _ _ _ _ c.self.invariant (rw c.index.ensures at c.remove-clause.ensures.value))
 
 pub invariant_of-self : goal.invariant_of-self
 invariant_of-self c =
