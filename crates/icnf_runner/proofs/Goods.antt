@@ -1,11 +1,9 @@
 -- Good replies grow with the script.
-use Rattle.std.proofs.Common.{◌≡◌, ◌∙◌, sym, ap, refl, arith, subst, ℕ, suc, zero, ◌+◌, ◌<◌, ◌≤◌, max, List, [], ◌∷◌, ◌++◌, length, append_assoc, length-append, inl, inr, ⊎_elim, zero-add}
-use Rattle.std.specs.Prelude.{◌⊎◌, Contains}
-use Rattle.std.proofs.lemmas.List.{append-nil}
-use Rattle.sat_terms.specs.Answer.{greatest_var, IsModel, IsCore}
+use Rattle.std.proofs.Common.{◌≡◌, ◌∙◌, sym, ap, refl, arith, subst, ℕ, ◌+◌, ◌<◌, max, List, [], ◌∷◌, ◌++◌, length, length-append, inl, inr, ⊎_elim}
+use Rattle.std.specs.Prelude.{◌⊎◌}
 use Rattle.icnf_reader.specs.Grammar.{Statement, Clause, Query}
 use Rattle.solver_api.specs.declared.givens.GivenPart.TheVariants as part
-use Rattle.reply_text.specs.Reply.{Reply, Sat, Unsat}
+use Rattle.reply_text.specs.Reply.{Reply, Unsat}
 use Rattle.icnf_runner.specs.Good.{parts_of, greatest_in, query_count, IsGood, IsSettled, GoodReplies}
 
 -- a list with one more member at its end, cut at a member: that is the last one, or it stands before
@@ -38,9 +36,9 @@ cut_last (w ∷ xs) x [] y zs e = inr (record { rest = xs; front = ap (λ h. h �
 cut_last (w ∷ xs) x (v ∷ ys) y zs e =
     let same_head : w ≡ v = ap (head_of w) e in
     ⊎_elim
-      (λ (l : IsLast xs x ys y zs). inl (record { front = ap (λ h. h ∷ xs) same_head ∙ ap (λ t. v ∷ t) l.front; same = l.same; none = l.none }))
-      (λ (b : IsBefore xs x ys y zs). inr (record { rest = b.rest; front = ap (λ h. h ∷ xs) same_head ∙ ap (λ t. v ∷ t) b.front; back = b.back }))
-      (cut_last xs x ys y zs (ap tail_of e))
+    (λ (l : IsLast xs x ys y zs). inl (record { front = ap (λ h. h ∷ xs) same_head ∙ ap (λ t. v ∷ t) l.front; same = l.same; none = l.none }))
+    (λ (b : IsBefore xs x ys y zs). inr (record { rest = b.rest; front = ap (λ h. h ∷ xs) same_head ∙ ap (λ t. v ∷ t) b.front; back = b.back }))
+    (cut_last xs x ys y zs (ap tail_of e))
 
 pub parts_push : (ss : List Statement) (s : Statement) → parts_of (ss ++ s ∷ []) ≡ parts_of ss ++ parts_of (s ∷ [])
 parts_push [] s = refl
@@ -77,7 +75,7 @@ pub good_clause : (script : List Statement) (replies : List Reply) (c : List ℕ
 good_clause script replies c h = record {
   one_each = let n = count_push script (Clause c) in omega (arith, h.one_each, n);
   good = λ above below a earlier later r cut e n.
-    ⊎_elim
+      ⊎_elim
       (λ (l : IsLast script (Clause c) above (Query a) below). absurd (differ l.same))
       (λ (b : IsBefore script (Clause c) above (Query a) below). h.good above b.rest a earlier later r b.front e n)
       (cut_last script (Clause c) above (Query a) below cut);
@@ -92,22 +90,22 @@ pub good_query : (script : List Statement) (replies : List Reply) (a : List ℕ)
 good_query script replies a r h is settles = record {
   one_each = let n = count_push script (Query a) in let m = length-append replies (r ∷ []) in omega (arith, h.one_each, n, m);
   good = λ above below b earlier later q cut e n.
-    let Fine : Type 0 = IsGood above b q × (IsSettled above earlier → q ≡ Unsat []) in
-    ⊎_elim
+      let Fine : Type 0 = IsGood above b q × (IsSettled above earlier → q ≡ Unsat []) in
+      ⊎_elim
       (λ (l : IsLast script (Query a) above (Query b) below).
-        ⊎_elim
-          (λ (m : IsLast replies r earlier q later). moved l.front (same_query l.same) m.front m.same)
-          (λ (m : IsBefore replies r earlier q later).
-            let x = ap length m.front in let y = length-append earlier (q ∷ m.rest) in let z = ap query_count l.front in
-            absurd (omega (arith, x, y, z, n, h.one_each)))
-          (cut_last replies r earlier q later e))
+      ⊎_elim
+      (λ (m : IsLast replies r earlier q later). moved l.front (same_query l.same) m.front m.same)
+      (λ (m : IsBefore replies r earlier q later).
+      let x = ap length m.front in let y = length-append earlier (q ∷ m.rest) in let z = ap query_count l.front in
+      absurd (omega (arith, x, y, z, n, h.one_each)))
+      (cut_last replies r earlier q later e))
       (λ (l : IsBefore script (Query a) above (Query b) below).
-        ⊎_elim
-          (λ (m : IsLast replies r earlier q later).
-            let x = ap length m.front in let y = count_cut above b l.rest in let z = ap query_count l.front in
-            absurd (omega (arith, x, y, z, n, h.one_each)))
-          (λ (m : IsBefore replies r earlier q later). h.good above l.rest b earlier m.rest q l.front m.front n)
-          (cut_last replies r earlier q later e))
+      ⊎_elim
+      (λ (m : IsLast replies r earlier q later).
+      let x = ap length m.front in let y = count_cut above b l.rest in let z = ap query_count l.front in
+      absurd (omega (arith, x, y, z, n, h.one_each)))
+      (λ (m : IsBefore replies r earlier q later). h.good above l.rest b earlier m.rest q l.front m.front n)
+      (cut_last replies r earlier q later e))
       (cut_last script (Query a) above (Query b) below cut);
 }
   where

@@ -1,18 +1,17 @@
 -- What a run keeps from item to item, and how it ends.
-use Rattle.std.proofs.Common.{◌≡◌, ◌∙◌, sym, ap, refl, subst, arith, inl, inr, ⊎_elim, zero-add, ℕ, ◌+◌, ◌<◌, ◌≤◌, List, [], ◌∷◌, ◌++◌, length, append_assoc, Option, Some, None, Ok, Err, Bool, true, false, eqb}
-use Rattle.std.specs.Prelude.{max, ◌⊎◌, ◌↔◌, ◌≢◌, IfSome, take}
+use Rattle.std.proofs.Common.{◌≡◌, ◌∙◌, sym, ap, refl, subst, arith, inl, inr, ⊎_elim, ℕ, ◌+◌, ◌≤◌, List, [], ◌∷◌, ◌++◌, length, append_assoc, Option, Some, None, Ok, Bool, true, false, eqb}
+use Rattle.std.specs.Prelude.{◌⊎◌, ◌↔◌, IfSome, take}
 use Rattle.std.proofs.lemmas.Bool.{eqb-true}
 use Rattle.std.proofs.lemmas.List.{append-nil, take_all}
 use Rattle.std.proofs.Math.Seq.{take-append-add}
 use Rattle.std.specs.Io.KnownBytes.{Appends, prepend_known, IsAtEnd}
 use Rattle.std.proofs.KnownBytes.{Appends-trans, Appends-nil}
-use Rattle.io_edge.specs.Lines.{lines}
 use Rattle.io_edge.specs.Told.{WhereTold, AppendsFront}
 use Rattle.io_edge.specs.Reading.{rest_of}
 use Rattle.icnf_reader.specs.Tokens.{tokens, CutOff}
-use Rattle.icnf_reader.specs.Grammar.{Statement, Clause, Query}
-use Rattle.icnf_reader.specs.Script.{Ending, Whole, Bad, Stopped, Reads}
-use Rattle.icnf_reader.specs.Outcomes.{Outcome, start, nothing, text_reads, reads, put_item, statements_of}
+use Rattle.icnf_reader.specs.Grammar.{Statement}
+use Rattle.icnf_reader.specs.Script.{Ending, Whole, Bad, Reads}
+use Rattle.icnf_reader.specs.Outcomes.{start, nothing, text_reads, reads, put_item, statements_of}
 use Rattle.icnf_reader.specs.ReadState.{ReadState, outcome, GivesItem, over, LeadsOver, StopsOver, at_start, given, lits_in}
 use Rattle.icnf_reader.proofs.Left.{told_both, told_then, told_left, lines_then, not_ended}
 use Rattle.icnf_reader.proofs.Reading.{outcome_at_start, statements_of-append}
@@ -28,7 +27,7 @@ use Rattle.reply_text.specs.Reply.{Reply, Sat, Unsat, code_of}
 use Rattle.reply_text.specs.Text.{reply_text, replies_text}
 use Rattle.icnf_runner.specs.Good.{GoodReplies}
 use Rattle.icnf_runner.specs.Output.{status_after, IsAnswer, IsBreak, Answers, Refuses, GoesWrong, Begins, IsCutShort, Prints, PrintsBetween, closing_line}
-use Rattle.icnf_runner.specs.Session.{Stands, assumed, Gives, IsReplied, IsHalfReplied, put_items, TakenTo, HasCome}
+use Rattle.icnf_runner.specs.Session.{Stands, IsReplied, IsHalfReplied, put_items, TakenTo, HasCome}
 use Rattle.icnf_runner.proofs.Goods.{good_start}
 use Rattle.icnf_runner.proofs.Sessions.{stands_unused, stands_clause, stands_query, good_half}
 
@@ -207,7 +206,7 @@ says_more : (bytes : List ℕ) (now : ReadState) (front : List Item) (rest : Lis
     → Reads bytes (statements_of front ++ statements_of (outcome now rest).items) (outcome now rest).ending
 says_more bytes now front rest p =
     text_is_said bytes (statements_of front ++ statements_of (outcome now rest).items) (outcome now rest).ending
-      (ap (λ o. statements_of o.items) p ∙ statements_of-append front (outcome now rest).items, ap (λ o. o.ending) p)
+    (ap (λ o. statements_of o.items) p ∙ statements_of-append front (outcome now rest).items, ap (λ o. o.ending) p)
 
 -- the run breaks off between two replies
 pub begins : (s : State) (code : ℕ) (written written' left rest : Option (List ℕ)) (now : ReadState) → HasCome s code written written' left rest now
@@ -259,8 +258,7 @@ pub begins_reply : (s : State) (code : ℕ) (a : List ℕ) (written written' wri
     → Prints written written'' left Begins
 begins_reply s code a written written' written'' left rest rest' now new d next b =
     let P : List Statement → Type 0 = λ ss. GoodReplies ss (d.replies ++ b.reply ∷ []) in
-    let front = d.front ++ item.Query a ∷ [] in
-    (
+    let front = d.front ++ item.Query a ∷ [] in (
       replies_text d.replies ++ take b.printed.0 (reply_text b.reply),
       Appends-trans written written' written'' (replies_text d.replies) (take b.printed.0 (reply_text b.reply)) d.printed b.printed.1,
       told_left left rest' (λ x y p. record {
@@ -332,18 +330,18 @@ cut_short s code written written' left rest left' now new d off dry going =
       replies_text d.replies,
       d.printed,
       told_both left rest left' (λ x y z p q.
-        let says = p.leads q.pieces (CutOff ∷ []) 1 ∙ ap (put_items d.front) (q.none 1) in
-        record {
-          pieces = p.pieces ++ q.pieces;
-          part = q.part;
-          taken = lines_then p.pieces q.pieces now.words.lines.ended false x y (q.part ++ z) (λ _. q.going) p.taken q.taken;
-          no_end = q.no_end;
-          script = statements_of d.front;
-          ended = cut_is_said (p.pieces ++ q.pieces) 1 (statements_of d.front) (ap (λ o. statements_of o.items) says ∙ ap statements_of (append-nil d.front), ap (λ o. o.ending) says);
-          replies = d.replies;
-          good = d.stands.good;
-          printed = refl;
-        }) d.taken (subst P e off),
+          let says = p.leads q.pieces (CutOff ∷ []) 1 ∙ ap (put_items d.front) (q.none 1) in
+          record {
+            pieces = p.pieces ++ q.pieces;
+            part = q.part;
+            taken = lines_then p.pieces q.pieces now.words.lines.ended false x y (q.part ++ z) (λ _. q.going) p.taken q.taken;
+            no_end = q.no_end;
+            script = statements_of d.front;
+            ended = cut_is_said (p.pieces ++ q.pieces) 1 (statements_of d.front) (ap (λ o. statements_of o.items) says ∙ ap statements_of (append-nil d.front), ap (λ o. o.ending) says);
+            replies = d.replies;
+            good = d.stands.good;
+            printed = refl;
+          }) d.taken (subst P e off),
     )
   where
     same : (left : Option (List ℕ)) → prepend_known [] left ≡ left
@@ -375,12 +373,13 @@ pub exactly_bad : {W : Type 0} (words : List W) (code : ℕ) (written written' l
     → (IsAnswer code → Prints written written' left (Answers code)) → (code ≡ 1 → Prints written written' left Refuses)
     → IfSome left (λ bytes. (code ≡ 1) ↔ ((words ≡ []) × GoesWrong bytes × (IsBreak code → ⊥)))
 exactly_bad words code written written' None none codes answers refuses = tt
-exactly_bad words code written written' (Some bytes) none codes answers refuses =
-    ( (λ one. (none, goes_wrong written written' (Some bytes) (refuses one), (λ broken. no_break one broken)))
-    , (λ wrong. ⊎_elim
-        (λ (a : IsAnswer code). absurd (not_wrong code written written' (Some bytes) (answers a) wrong.1))
-        (λ (b : (code ≡ 1) ⊎ IsBreak code). ⊎_elim (λ (one : code ≡ 1). one) (λ (broken : IsBreak code). absurd (wrong.2 broken)) b)
-        codes) )
+exactly_bad words code written written' (Some bytes) none codes answers refuses = (
+  (λ one. (none, goes_wrong written written' (Some bytes) (refuses one), (λ broken. no_break one broken))),
+  (λ wrong. ⊎_elim
+      (λ (a : IsAnswer code). absurd (not_wrong code written written' (Some bytes) (answers a) wrong.1))
+      (λ (b : (code ≡ 1) ⊎ IsBreak code). ⊎_elim (λ (one : code ≡ 1). one) (λ (broken : IsBreak code). absurd (wrong.2 broken)) b)
+      codes),
+)
   where
     no_break : code ≡ 1 → IsBreak code → ⊥
     no_break one broken = ⊎_elim (λ (e : code ≡ 3). omega (arith, one, e)) (⊎_elim (λ (e : code ≡ 4). omega (arith, one, e)) (λ (e : code ≡ 5). omega (arith, one, e))) broken
@@ -389,9 +388,10 @@ exactly_bad words code written written' (Some bytes) none codes answers refuses 
 pub exactly_words : {W : Type 0} (words : List W) (code : ℕ) (left : Option (List ℕ)) → (words ≡ [] → ⊥) → (code ≡ 2) ⊎ (code ≡ 4)
     → IfSome left (λ bytes. (code ≡ 1) ↔ ((words ≡ []) × GoesWrong bytes × (IsBreak code → ⊥)))
 exactly_words words code None some codes = tt
-exactly_words words code (Some bytes) some codes =
-    ( (λ one. absurd (⊎_elim (λ (e : code ≡ 2). omega (arith, one, e)) (λ (e : code ≡ 4). omega (arith, one, e)) codes))
-    , (λ wrong. absurd (some wrong.0)) )
+exactly_words words code (Some bytes) some codes = (
+  (λ one. absurd (⊎_elim (λ (e : code ≡ 2). omega (arith, one, e)) (λ (e : code ≡ 4). omega (arith, one, e)) codes)),
+  (λ wrong. absurd (some wrong.0)),
+)
 
 -- no words
 pub no_words : {W : Type 0} (words : List W) (empty : Bool) → empty ≡ eqb (length words) 0 → empty ≡ true → words ≡ []

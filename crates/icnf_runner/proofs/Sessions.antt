@@ -1,10 +1,9 @@
 -- What the calls of a session do to a solver that stands for a script.
-use Rattle.std.proofs.Common.{◌≡◌, ◌∙◌, sym, ap, refl, arith, subst, ℕ, ◌+◌, ◌≤◌, Bool, true, false, ◌||◌, max, List, [], ◌∷◌, ◌++◌, length, eqb, append_assoc, inl, inr, ⊎_elim, Ok, Option, Some, None}
-use Rattle.std.specs.Prelude.{◌⊎◌, Contains, ◌==◌}
+use Rattle.std.proofs.Common.{◌≡◌, ◌∙◌, sym, ap, refl, arith, subst, ℕ, ◌+◌, Bool, true, max, List, [], ◌∷◌, ◌++◌, length, append_assoc, inl, inr, ⊎_elim, Ok, Option, Some, None}
+use Rattle.std.specs.Prelude.{Contains, ◌==◌}
 use Rattle.std.proofs.lemmas.Bool.{or_left, or_right, eq-eqb, false≢true}
 use Rattle.std.proofs.lemmas.List.{append-nil}
 use Rattle.std.proofs.lemmas.List.Elements.{Contains-push_cases}
-use Rattle.sat_terms.specs.Literal.{var_of}
 use Rattle.sat_terms.specs.Answer.{greatest_var, IsModel, IsCore}
 use Rattle.icnf_reader.specs.Grammar.{Statement, Clause, Query}
 use Rattle.solver_api.specs.Given.{GivenTrue}
@@ -70,16 +69,16 @@ stands_clause s s' script replies c n st h = record {
   given_is = ap (λ t. t.given) h.1 ∙ ap (λ g. g ++ part.Clause c ∷ []) st.given_is ∙ sym (parts_push script (Clause c));
   none = ap (λ t. t.pending) h.1 ∙ st.none;
   greatest_is =
-    let a = ap (λ t. t.greatest) h.1 in let b = greatest_push script (Clause c) in
-    omega (arith, a, b, st.greatest_is);
+      let a = ap (λ t. t.greatest) h.1 in let b = greatest_push script (Clause c) in
+      omega (arith, a, b, st.greatest_is);
   taken_is = let a = ap (λ t. t.taken) h.1 in omega (arith, a, st.taken_is);
   settles = λ settled. ap (λ t. t.settled) h.1 ∙
-    ⊎_elim
+      ⊎_elim
       (λ (k : Contains (script ++ Clause c ∷ []) (Clause [])).
-        ⊎_elim
-          (λ (old : Contains script (Clause [])). or_left s.settled (length c == 0) (st.settles (inl old)))
-          (λ (new : Clause c ≡ Clause []). or_right s.settled (length c == 0) (eq-eqb (length c) 0 (ap length (ap lits_of new))))
-          (Contains-push_cases script (Clause c) (Clause []) k))
+      ⊎_elim
+      (λ (old : Contains script (Clause [])). or_left s.settled (length c == 0) (st.settles (inl old)))
+      (λ (new : Clause c ≡ Clause []). or_right s.settled (length c == 0) (eq-eqb (length c) 0 (ap length (ap lits_of new))))
+      (Contains-push_cases script (Clause c) (Clause []) k))
       (λ (k : Contains replies (Unsat [])). or_left s.settled (length c == 0) (st.settles (inr k)))
       settled;
   good = good_clause script replies c st.good;
@@ -114,17 +113,17 @@ now_settled : (s s' : State) (script : List Statement) (replies : List Reply) (a
     → IsSettled (script ++ Query a ∷ []) (replies ++ r ∷ []) → s'.settled ≡ true
 now_settled s s' script replies a r n st h settled =
     ⊎_elim
-      (λ (k : Contains (script ++ Query a ∷ []) (Clause [])).
-        ⊎_elim
-          (λ (old : Contains script (Clause [])). before (inl old) r h)
-          (λ (new : Query a ≡ Clause []). absurd (differ new))
-          (Contains-push_cases script (Query a) (Clause []) k))
-      (λ (k : Contains (replies ++ r ∷ []) (Unsat [])).
-        ⊎_elim
-          (λ (old : Contains replies (Unsat [])). before (inr old) r h)
-          (λ (new : r ≡ Unsat []). here r h new)
-          (Contains-push_cases replies r (Unsat []) k))
-      settled
+    (λ (k : Contains (script ++ Query a ∷ []) (Clause [])).
+    ⊎_elim
+    (λ (old : Contains script (Clause [])). before (inl old) r h)
+    (λ (new : Query a ≡ Clause []). absurd (differ new))
+    (Contains-push_cases script (Query a) (Clause []) k))
+    (λ (k : Contains (replies ++ r ∷ []) (Unsat [])).
+    ⊎_elim
+    (λ (old : Contains replies (Unsat [])). before (inr old) r h)
+    (λ (new : r ≡ Unsat []). here r h new)
+    (Contains-push_cases replies r (Unsat []) k))
+    settled
   where
     differ : {x y : List ℕ} → Query x ≡ Clause y → ⊥
     differ e = cc

@@ -14,7 +14,8 @@ use std::alloc::{AllocError, Global};
 use std::fmt::Write;
 
 // The line for words that are not accepted.
-const USAGE: &str = "c usage: icnf_runner [--simplify | --self N] [--conflicts N] [--callbacks N] [--steps N] [--stats] [--check]\n";
+const USAGE: &str =
+    "c usage: icnf_runner [--simplify | --self N] [--conflicts N] [--callbacks N] [--steps N] [--stats] [--check]\n";
 
 /// How a run ended: the exit status of the program.
 #[derive(Clone, Copy, Debug, PartialEq, Eq)]

@@ -49,11 +49,7 @@ fn inputs_are_answered_however_they_are_cut(rt: HostRuntime) -> Result<(), Fail>
             "s SATISFIABLE\nv -1 2 3 0\n",
             10,
         ),
-        (
-            "p inccnf\n1 0\n-1 0\na 2 0\n",
-            "s UNSATISFIABLE\nf 0\n",
-            20,
-        ),
+        ("p inccnf\n1 0\n-1 0\na 2 0\n", "s UNSATISFIABLE\nf 0\n", 20),
         ("p inccnf\na 0\n", "s SATISFIABLE\nv 0\n", 10),
         (
             "p inccnf\nk 1 1 0\n",
@@ -100,7 +96,12 @@ fn a_script_that_is_cut_off_says_where(rt: HostRuntime) -> Result<(), Fail> {
     let alloc = rt.alloc();
     let script = SCRIPT.as_bytes();
     for (first, last, want, code) in [
-        (0usize, 0usize, "c refused at line 1: header expected\n", 1u8),
+        (
+            0usize,
+            0usize,
+            "c refused at line 1: header expected\n",
+            1u8,
+        ),
         (1, 2, "c refused at line 1: not closed\n", 1),
         (3, 7, "c refused at line 1: header expected\n", 1),
         (8, 9, "", 0),
@@ -188,7 +189,8 @@ fn reads_and_writes_fail_in_turn(rt: HostRuntime) -> Result<(), Fail> {
 #[test]
 fn words_are_refused_and_nothing_is_read(rt: HostRuntime) -> Result<(), Fail> {
     let alloc = rt.alloc();
-    let usage = "c usage: icnf_runner [--simplify | --self N] [--conflicts N] [--callbacks N] [--steps N] [--stats] [--check]\n";
+    let usage =
+        "c usage: icnf_runner [--simplify | --self N] [--conflicts N] [--callbacks N] [--steps N] [--stats] [--check]\n";
     for word in ["", "--", "--help", "--stats"] {
         let words = vec![in alloc; String::from_str(alloc, word)?]?;
         let mut source = MemSource::new(alloc, SCRIPT.as_bytes(), 1000, &[0])?;

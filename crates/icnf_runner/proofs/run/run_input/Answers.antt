@@ -1,10 +1,7 @@
-use Rattle.std.proofs.Common.{◌≡◌, ◌∙◌, ◌≤◌, ◌+◌, ℕ, List, [], subst, sym, ap, arith, true, false, Ok, Err, ⊎_elim, inl, inr, refl}
-use Rattle.std.specs.Prelude.{◌⊎◌}
+use Rattle.std.proofs.Common.{◌≡◌, ◌∙◌, ◌+◌, subst, sym, ap, arith, Ok, Err, ⊎_elim, inl, inr}
 use Rattle.std.proofs.lemmas.Bool.{false≢true}
-use Rattle.io_edge.specs.Reading.{rest_of}
 use Rattle.icnf_reader.specs.ReadState.{ReadAnswers, ReadsOver, read_is_last, lits_in, given}
 use Rattle.icnf_reader.specs.declared.item.Item.{Item}
-use Rattle.icnf_reader.specs.declared.item.Item.TheVariants as item
 use Rattle.icnf_reader.specs.declared.reader.Stop.{Stop}
 use Rattle.solver_api.specs.Steps.{state}
 use Rattle.icnf_runner.proofs.Runs.{cut_short, come_start, come_header, come_clause, come_query, finished, refused, begins, begins_closing, begins_reply, is_answer, nothing_yet, no_answer, ends_at, begins_kept, no_three}
