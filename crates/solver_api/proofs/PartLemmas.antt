@@ -1,9 +1,9 @@
 -- Parts that are clauses.
-use Rattle.std.proofs.Common.{◌≡◌, ◌∙◌, sym, ap, refl, subst, arith, ℕ, ◌+◌, ◌<◌, ◌≤◌, Bool, true, false, List, [], ◌∷◌, ◌++◌, length, Some, None, zero, suc, get_or}
+use Rattle.std.proofs.Common.{◌≡◌, ◌∙◌, sym, ap, refl, subst, arith, ℕ, ◌<◌, Bool, true, false, List, [], ◌∷◌, ◌++◌, length, Some, None, zero, suc, get_or}
 use Rattle.std.specs.Prelude.{All, slice_get, ◌&&◌, Result, Option, Ok, Err, IfOk, IfSome, IfNone}
 use Rattle.std.specs.List.{list_all}
 use Rattle.sat_terms.specs.Truth.{Assignment, clause_true, clauses_true}
-use Rattle.sat_terms.specs.Answer.{Satisfies, Within, IsModel, NoModel}
+use Rattle.sat_terms.specs.Answer.{Satisfies, IsModel, NoModel}
 use Rattle.solver_api.specs.declared.givens.GivenPart.{GivenPart}
 use Rattle.solver_api.specs.declared.givens.GivenPart.TheVariants.{Clause, Rule}
 use Rattle.solver_api.specs.Given.{part_true, GivenTrue, IsClause, clauses_in}

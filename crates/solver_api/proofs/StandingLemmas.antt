@@ -1,14 +1,14 @@
 -- What a call leaves standing.
-use Rattle.std.proofs.Common.{◌≡◌, ◌∙◌, sym, ap, refl, subst, arith, ⊎_elim, ℕ, ◌+◌, ◌<◌, ◌≤◌, ◌^◌, Bool, true, false, List, [], ◌∷◌, ◌++◌, length, max}
+use Rattle.std.proofs.Common.{◌≡◌, sym, refl, subst, arith, ⊎_elim, ℕ, ◌≤◌, ◌^◌, Bool, true, List, [], ◌∷◌, ◌++◌, length}
 use Rattle.std.specs.Prelude.{All, ◌||◌, ◌==◌}
 use Rattle.std.proofs.lemmas.Bool.{false≢true, or_cases, eqb-true}
 use Rattle.std.proofs.lemmas.List.Elements.{All-push, All-weaker}
 use Rattle.sat_terms.specs.Literal.{var_of}
-use Rattle.sat_terms.specs.Answer.{Within, NoModel, IsCore}
+use Rattle.sat_terms.specs.Answer.{Within, NoModel}
 use Rattle.solver_api.specs.declared.givens.GivenPart.{GivenPart}
 use Rattle.solver_api.specs.declared.givens.GivenPart.TheVariants.{Clause}
 use Rattle.solver_api.specs.declared.mode.Mode.{Mode}
-use Rattle.solver_api.specs.declared.mode.Mode.TheVariants.{Input, Sat, Unsat}
+use Rattle.solver_api.specs.declared.mode.Mode.TheVariants.{Input, Unsat}
 use Rattle.solver_api.specs.Given.{part_true, GivenTrue, clauses_in}
 use Rattle.solver_api.specs.Standing.{Stands}
 use Rattle.solver_api.proofs.PartLemmas.{clauses_in-push, given_less}

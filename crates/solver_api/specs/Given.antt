@@ -2,7 +2,6 @@
 use Rattle.std.specs.List.{list_all}
 use Rattle.std.specs.Prelude.{◌≡◌, ℕ, Bool, true, List, [], ◌∷◌}
 use Rattle.sat_terms.specs.Truth.{Assignment, clause_true}
-use Rattle.sat_terms.specs.Answer.{Within}
 use Rattle.sat_model.specs.Constraint.{constraint_true}
 use Rattle.solver_api.specs.declared.givens.GivenPart.{GivenPart}
 use Rattle.solver_api.specs.declared.givens.GivenPart.TheVariants.{Clause, Rule}

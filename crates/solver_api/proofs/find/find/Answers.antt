@@ -1,4 +1,4 @@
-use Rattle.std.proofs.Common.{sym, [], ◌∙◌, inl, inr}
+use Rattle.std.proofs.Common.{sym, ◌∙◌, inl, inr}
 use Rattle.std.proofs.lemmas.Bool.{false≢true}
 use Rattle.solver_api.specs.Given.{GivenTrue}
 use Rattle.solver_api.proofs.Lists.{empty_core, whole_core}

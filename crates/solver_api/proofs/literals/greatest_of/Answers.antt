@@ -1,5 +1,4 @@
-use Rattle.std.proofs.Common.{arith, ap, sym, ◌≤◌, ◌≡◌, ◌+◌, ◌∷◌, drop, [], drop-cons, max}
-use Rattle.std.specs.Prelude.{All}
+use Rattle.std.proofs.Common.{arith, ap, sym, ◌≤◌}
 use Rattle.std.proofs.lemmas.List.{drop_all, take_all, get_or_read}
 use Rattle.std.proofs.lemmas.List.Elements.{All-more}
 use Rattle.sat_terms.specs.Literal.{var_of}

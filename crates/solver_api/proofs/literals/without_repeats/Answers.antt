@@ -1,4 +1,4 @@
-use Rattle.std.proofs.Common.{◌≡◌, ◌∙◌, ◌≤◌, ap, sym, subst, arith, length, ℕ}
+use Rattle.std.proofs.Common.{◌∙◌, ◌≤◌, sym, subst, arith, ℕ}
 use Rattle.sat_terms.specs.Literal.{var_of}
 use Rattle.solver_api.proofs.Lists.{core_more, core_all, code_fits}
 use Rattle.solver_api.proofs.literals.without_repeats.Goals as goal

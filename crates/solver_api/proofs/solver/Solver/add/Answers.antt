@@ -1,5 +1,4 @@
 use Rattle.std.proofs.Common.{◌≡◌, ◌∙◌, ◌≤◌, ◌+◌, ◌^◌, sym, ap, subst, arith, Bool, List, length, ◌∷◌, ◌++◌, []}
-use Rattle.std.specs.Prelude.{◌||◌, ◌==◌}
 use Rattle.solver_api.specs.declared.givens.GivenPart.{GivenPart}
 use Rattle.solver_api.specs.declared.givens.GivenPart.TheVariants.{Clause}
 use Rattle.solver_api.specs.declared.mode.Mode.TheVariants.{Input}

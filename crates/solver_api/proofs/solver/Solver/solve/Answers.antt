@@ -1,9 +1,7 @@
 use Rattle.std.proofs.Common.{◌≡◌, ◌∙◌, sym, ap, subst, ℕ, Bool, List, length, []}
 use Rattle.std.specs.Prelude.{◌||◌, ◌==◌}
-use Rattle.sat_terms.specs.Answer.{NoModel}
 use Rattle.solver_api.specs.declared.find.Found.{Found}
 use Rattle.solver_api.specs.declared.mode.Mode.TheVariants.{Unsat}
-use Rattle.solver_api.specs.Given.{GivenTrue}
 use Rattle.solver_api.specs.Finds.{Finds}
 use Rattle.solver_api.specs.Standing.{Stands}
 use Rattle.solver_api.proofs.StandingLemmas.{stands_core}
