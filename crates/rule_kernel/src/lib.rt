@@ -1,0 +1,10 @@
+//! The rules by which clauses come, go, and move between a store and a reconstruction stack, so that every model of the firm
+//! clauses can be extended to one of the clauses on the stack.
+#![tactic(auto)]
+
+pub mod frozen;
+pub mod kernel;
+pub mod laws;
+pub mod report;
+#[cfg(test)]
+mod tests;

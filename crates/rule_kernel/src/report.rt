@@ -1,0 +1,17 @@
+//! What a pass of simplification reports.
+
+/// How a pass ended.
+#[derive(Clone, Copy, Debug, PartialEq, Eq)]
+pub enum Ended {
+    /// Nothing was left to do.
+    Fixpoint,
+    /// The pass did so many steps, which was its limit.
+    Limit(u64),
+}
+
+/// How many clauses a pass took out of the store, and how it ended.
+#[derive(Clone, Copy, Debug, PartialEq, Eq)]
+pub struct PassReport {
+    pub removed: u64,
+    pub ended: Ended,
+}
