@@ -1,16 +1,15 @@
 -- Each rule keeps the chain.
-use Rattle.std.proofs.Common.{◌≡◌, ℕ, suc, ◌+◌, ◌<◌, Bool, true, false, not, List, [], ◌∷◌, ◌++◌, length, drop, Option, Some, None, IsSome, refl, sym, ap, ◌∙◌, add-one}
+use Rattle.std.proofs.Common.{◌≡◌, ℕ, ◌+◌, ◌<◌, Bool, true, false, not, List, [], ◌∷◌, ◌++◌, length, drop, Option, Some, None, IsSome, refl, add-one}
 use Rattle.std.specs.List.{remove}
 use Rattle.std.proofs.lemmas.Bool.{false≢true}
-use Rattle.sat_terms.specs.Truth.{Assignment, clause_true}
+use Rattle.sat_terms.specs.Truth.{Assignment}
 use Rattle.sat_terms.specs.Normal.{IsNormal}
-use Rattle.redundancy.specs.Redundancy.{Entry, Witnesses, Chain, Clean, Implies, And, IsEntry, IsStack, entry, no_entry}
+use Rattle.redundancy.specs.Redundancy.{Entry, Witnesses, Chain, Clean, Implies, And, IsEntry, entry, no_entry}
 use Rattle.redundancy.proofs.Chains.{Witnesses-same, Chain-same, Chain-add, Chain-park, Chain-restore}
-use Rattle.clause_store.specs.declared.stored.Keep.TheVariants.{Firm, Redundant}
 use Rattle.clause_store.specs.Stored.{Stored, slot, slot_lits, is_firm, is_redundant, keeps_firm, SlotTrue, FirmTrue, OthersTrue, Fills, Frees}
 use Rattle.clause_store.proofs.Slots.{FirmTrue-from, OthersTrue-from, FirmTrue-filled, FirmTrue-before, FirmTrue-freed, OthersTrue-freed}
 use Rattle.rule_kernel.specs.State.{State, IsChained}
-use Rattle.rule_kernel.specs.Rules.{firm_clause, redundant_clause, Adds, AddsImplied, DropsImplied, Parks, Restores, Learns, Forgets, Rule, Add, AddImplied, DropImplied, Park, Restore, Learn, Forget, Applies, Run, RulesKeepChain}
+use Rattle.rule_kernel.specs.Rules.{firm_clause, redundant_clause, Rule, Add, AddImplied, DropImplied, Park, Restore, Learn, Forget, Applies, RulesKeepChain}
 
 -- an id of a firm clause, or of a redundant one, is live
 pub live_from_firm : (x : Option Stored) → is_firm x ≡ true → IsSome x

@@ -1,4 +1,4 @@
-use Rattle.std.proofs.Common.{◌<◌, arith}
+use Rattle.std.proofs.Common.{arith}
 use Rattle.sat_terms.specs.Literal.{var_of}
 use Rattle.clause_store.proofs.Normals.{normal_two}
 use Rattle.rule_kernel.proofs.tests.come_and_go.Goals as goal

@@ -1,4 +1,3 @@
-use Rattle.std.proofs.Common.{add-one}
 use Rattle.redundancy.specs.Redundancy.{no_entry}
 use Rattle.rule_kernel.proofs.Chained.{chain_restored}
 use Rattle.rule_kernel.proofs.kernel.Kernel.restore.Goals as goal
