@@ -12,13 +12,11 @@ use crate::numbers::literal_word;
 use crate::words::{WordGot, WordReader, WordStop};
 use io_edge::outside::Source;
 use sat_model::lists::Lits;
+use sat_model::literal::MAX_LITERALS;
 use sat_model::memory::Memory;
 use std::alloc::Global;
 use std::marker::Model;
 use std::mem;
-
-/// The most literals of an input, all statements together.
-pub const MAX_LITERALS: u64 = 134_217_728;
 
 // The header of iCNF.
 const INC_HEADER: Header = Header {
@@ -196,6 +194,9 @@ impl Reader {
     /// The next item, given as soon as its last word was read. `End` and a stop are the last answer. `Bad` names the line of
     /// the first fault and its reason, `End` comes where nothing is wrong, and `ReadFault` only where the source failed in
     /// this call. The grammar is that of iCNF (`p inccnf`, clauses, and queries that begin with `a`).
+    ///
+    /// The clauses compare what the text still to come says before and after the call. What all calls together give is said by
+    /// the grammar over the whole text: see `grammar::text_is_said`, `text_is_given`, `cut_is_said` and `cut_is_given`.
     pub fn next<S: Source>(&mut self, source: &mut S) -> Result<Item, Stop>
         requires { self.old.done ≡ false }
         ensures answer { ReadAnswers self.old self.new (S.left source.old) (S.left source.new) result }

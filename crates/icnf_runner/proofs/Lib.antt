@@ -1,3 +1,4 @@
 pub mod Goods
+pub mod Course
 pub mod Sessions
 pub mod Runs

@@ -27,7 +27,8 @@ use Rattle.reply_text.specs.Reply.{Reply, Sat, Unsat, code_of}
 use Rattle.reply_text.specs.Text.{reply_text, replies_text}
 use Rattle.icnf_runner.specs.Good.{GoodReplies}
 use Rattle.icnf_runner.specs.Output.{status_after, IsAnswer, IsBreak, Answers, Refuses, GoesWrong, Begins, IsCutShort, Prints, PrintsBetween, closing_line}
-use Rattle.icnf_runner.specs.Session.{Stands, IsReplied, IsHalfReplied, put_items, TakenTo, HasCome}
+use Rattle.icnf_runner.specs.Session.{IsReplied, IsHalfReplied}
+use Rattle.icnf_runner.proofs.Course.{IsTold, put_items, TakenTo, HasCome}
 use Rattle.icnf_runner.proofs.Goods.{good_start}
 use Rattle.icnf_runner.proofs.Sessions.{stands_unused, stands_clause, stands_query, good_half}
 
@@ -94,7 +95,7 @@ pub come_header : (s : State) (code : ℕ) (h : Header) (written written' left r
     → HasCome s code written written' left rest now → WhereTold rest rest' (GivesItem now new (item.Header h)) → WhereTold rest rest' (LeadsOver now new (put_item (item.Header h)))
     → (now.words.lines.ended ≡ true → new.words.lines.ended ≡ true) → given new.point ≡ given now.point + lits_in (item.Header h) → HasCome s code written written' left rest' new
 come_header s code h written written' left rest rest' now new d next lead stays count =
-    let P : List Statement → ℕ → Type 0 = λ ss n. Stands s ss d.replies n in
+    let P : List Statement → ℕ → Type 0 = λ ss n. IsTold s ss d.replies n in
     let same : statements_of d.front ≡ statements_of (d.front ++ item.Header h ∷ []) = sym (said_push d.front (item.Header h) ∙ append-nil (statements_of d.front)) in
     let none : given now.point ≡ given new.point = omega (arith, count) in
     record {
@@ -113,7 +114,7 @@ pub come_clause : (s s' : State) (code : ℕ) (c : List ℕ) (written written' l
     → (now.words.lines.ended ≡ true → new.words.lines.ended ≡ true) → given new.point ≡ given now.point + lits_in (item.Clause c)
     → Step s (calls.Add c) (Ok answers.Done) s' → HasCome s' code written written' left rest' new
 come_clause s s' code c written written' left rest rest' now new d next lead stays count step =
-    let P : List Statement → ℕ → Type 0 = λ ss n. Stands s' ss d.replies n in
+    let P : List Statement → ℕ → Type 0 = λ ss n. IsTold s' ss d.replies n in
     let front = statements_of d.front in
     record {
       front = d.front ++ item.Clause c ∷ [];
@@ -132,7 +133,7 @@ pub come_query : (s s' : State) (code code' : ℕ) (a : List ℕ) (written writt
     → (now.words.lines.ended ≡ true → new.words.lines.ended ≡ true) → given new.point ≡ given now.point + lits_in (item.Query a)
     → IsReplied s a s' written' written'' code' → HasCome s' code' written written'' left rest' new
 come_query s s' code code' a written written' written'' left rest rest' now new d next lead stays count r =
-    let P : List Statement → ℕ → Type 0 = λ ss n. Stands s' ss (d.replies ++ r.reply ∷ []) n in
+    let P : List Statement → ℕ → Type 0 = λ ss n. IsTold s' ss (d.replies ++ r.reply ∷ []) n in
     let W : List ℕ → Type 0 = λ t. Appends written written'' t in
     let front = statements_of d.front in
     record {

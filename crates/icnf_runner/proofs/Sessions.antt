@@ -16,7 +16,8 @@ use Rattle.solver_api.specs.declared.calls.Reply.TheVariants as answers
 use Rattle.reply_text.specs.Reply.{Reply, Sat, Unsat}
 use Rattle.reply_text.specs.Text.{reply_text}
 use Rattle.icnf_runner.specs.Good.{parts_of, greatest_in, IsGood, IsSettled, GoodReplies}
-use Rattle.icnf_runner.specs.Session.{Stands, assumed, Gives, IsSolved}
+use Rattle.icnf_runner.specs.Session.{assumed, Gives, IsSolved}
+use Rattle.icnf_runner.proofs.Course.{IsTold}
 use Rattle.icnf_runner.proofs.Goods.{parts_push, greatest_push, good_start, good_clause, good_query}
 
 -- what assuming literals does
@@ -45,7 +46,7 @@ pub assumed_more : (s : State) (l : ℕ) (ls : List ℕ) → assumed (assumed s 
 assumed_more s l ls = refl
 
 -- a solver that was told nothing
-pub stands_unused : (s : State) → s ≡ unused → Stands s [] [] 0
+pub stands_unused : (s : State) → s ≡ unused → IsTold s [] [] 0
 stands_unused s e = record {
   given_is = ap (λ t. t.given) e;
   none = ap (λ t. t.pending) e;
@@ -63,8 +64,8 @@ lits_of (Clause c) = c
 lits_of (Query a) = a
 
 -- a clause was added
-pub stands_clause : (s s' : State) (script : List Statement) (replies : List Reply) (c : List ℕ) (n : ℕ) → Stands s script replies n
-    → Step s (calls.Add c) (Ok answers.Done) s' → Stands s' (script ++ Clause c ∷ []) replies (n + length c)
+pub stands_clause : (s s' : State) (script : List Statement) (replies : List Reply) (c : List ℕ) (n : ℕ) → IsTold s script replies n
+    → Step s (calls.Add c) (Ok answers.Done) s' → IsTold s' (script ++ Clause c ∷ []) replies (n + length c)
 stands_clause s s' script replies c n st h = record {
   given_is = ap (λ t. t.given) h.1 ∙ ap (λ g. g ++ part.Clause c ∷ []) st.given_is ∙ sym (parts_push script (Clause c));
   none = ap (λ t. t.pending) h.1 ∙ st.none;
@@ -85,7 +86,7 @@ stands_clause s s' script replies c n st h = record {
 }
 
 -- a reply that was given is good
-given_good : (s s' : State) (script : List Statement) (replies : List Reply) (a : List ℕ) (r : Reply) (n : ℕ) → Stands s script replies n → Gives (assumed s a) r s' → IsGood script a r
+given_good : (s s' : State) (script : List Statement) (replies : List Reply) (a : List ℕ) (r : Reply) (n : ℕ) → IsTold s script replies n → Gives (assumed s a) r s' → IsGood script a r
 given_good s s' script replies a (Sat m) n st h =
     let P : List GivenPart → List ℕ → ℕ → Type 0 = λ g p v. IsModel (GivenTrue g) p v m in
     let g : (assumed s a).given ≡ parts_of script = assumed_given s a ∙ st.given_is in
@@ -99,7 +100,7 @@ given_good s s' script replies a (Unsat core) n st h =
     subst (P (parts_of script)) p (subst (λ x. P x (assumed s a).pending) g h.0)
 
 -- where all is settled the reply is the empty core
-given_settled : (s s' : State) (script : List Statement) (replies : List Reply) (a : List ℕ) (r : Reply) (n : ℕ) → Stands s script replies n → Gives (assumed s a) r s'
+given_settled : (s s' : State) (script : List Statement) (replies : List Reply) (a : List ℕ) (r : Reply) (n : ℕ) → IsTold s script replies n → Gives (assumed s a) r s'
     → IsSettled script replies → r ≡ Unsat []
 given_settled s s' script replies a (Sat m) n st h settled = absurd (false≢true (sym h.1 ∙ assumed_settled s a ∙ st.settles settled))
 given_settled s s' script replies a (Unsat core) n st h settled = ap Unsat (h.1 (assumed_settled s a ∙ st.settles settled))
@@ -109,7 +110,7 @@ core_of (Sat m) = 0 ∷ []
 core_of (Unsat core) = core
 
 -- and afterwards the solver knows
-now_settled : (s s' : State) (script : List Statement) (replies : List Reply) (a : List ℕ) (r : Reply) (n : ℕ) → Stands s script replies n → Gives (assumed s a) r s'
+now_settled : (s s' : State) (script : List Statement) (replies : List Reply) (a : List ℕ) (r : Reply) (n : ℕ) → IsTold s script replies n → Gives (assumed s a) r s'
     → IsSettled (script ++ Query a ∷ []) (replies ++ r ∷ []) → s'.settled ≡ true
 now_settled s s' script replies a r n st h settled =
     ⊎_elim
@@ -143,8 +144,8 @@ given_fields s s' a (Unsat core) h =
     (ap (λ t. t.given) h.2 ∙ assumed_given s a, ap (λ t. t.pending) h.2, ap (λ t. t.greatest) h.2 ∙ assumed_greatest s a, ap (λ t. t.taken) h.2 ∙ assumed_taken s a)
 
 -- a query was replied to
-pub stands_query : (s s' : State) (script : List Statement) (replies : List Reply) (a : List ℕ) (r : Reply) (n : ℕ) → Stands s script replies n
-    → Gives (assumed s a) r s' → Stands s' (script ++ Query a ∷ []) (replies ++ r ∷ []) (n + length a)
+pub stands_query : (s s' : State) (script : List Statement) (replies : List Reply) (a : List ℕ) (r : Reply) (n : ℕ) → IsTold s script replies n
+    → Gives (assumed s a) r s' → IsTold s' (script ++ Query a ∷ []) (replies ++ r ∷ []) (n + length a)
 stands_query s s' script replies a r n st h =
     let f = given_fields s s' a r h in
     record {
@@ -157,7 +158,7 @@ stands_query s s' script replies a r n st h =
     }
 
 -- the replies are good also where the last one was not whole
-pub good_half : (s s' : State) (script : List Statement) (replies : List Reply) (a : List ℕ) (r : Reply) (n : ℕ) → Stands s script replies n
+pub good_half : (s s' : State) (script : List Statement) (replies : List Reply) (a : List ℕ) (r : Reply) (n : ℕ) → IsTold s script replies n
     → Gives (assumed s a) r s' → GoodReplies (script ++ Query a ∷ []) (replies ++ r ∷ [])
 good_half s s' script replies a r n st h = (stands_query s s' script replies a r n st h).good
 

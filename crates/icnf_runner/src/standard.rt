@@ -1,5 +1,8 @@
 //! Standard input, standard output and the words of the command line.
-ghost use Rattle.std.specs.Prelude.{None, IfOk, ◌≤◌, length};
+ghost use Rattle.std.specs.Prelude.{◌≡◌, ◌<◌, ◌≤◌, None, length, IfOk, OnOk, OnErr};
+ghost use Rattle.std.specs.Io.{ReadsAtMost};
+ghost use Rattle.std.specs.Io.KnownBytes.{ReadConsumes, WriteAppends};
+ghost use Rattle.io_edge.specs.Causes.{HasCause, next_count};
 
 use io_edge::outside::{Failed, Sink, Source};
 use sat_model::memory::Memory;
@@ -15,7 +18,9 @@ pub struct StdSource<R: Read + Drop> {
 
 impl<R: Read + Drop> StdSource<R> {
     /// A source that has not failed yet.
-    pub fn new(reader: R) -> StdSource<R> {
+    pub fn new(reader: R) -> StdSource<R>
+        ensures { result.faults ≡ 0 }
+    {
         StdSource { reader, faults: 0 }
     }
 }
@@ -25,7 +30,16 @@ impl<R: Read + Drop> Source for StdSource<R> {
 
     ghost faults = { λ s. s.faults };
 
-    fn read(&mut self, buf: &mut [u8]) -> Result<usize, Failed> {
+    fn read(&mut self, buf: &mut [u8]) -> Result<usize, Failed>
+        requires { 0 < length buf.old }
+        ensures bound { ReadsAtMost result buf.new }
+        ensures bytes { ReadConsumes None None result buf.new }
+        ensures cause { HasCause self.old.faults self.new.faults result }
+
+        // The count is raised at each fault alone.
+        ensures counted { OnErr result (self.new.faults ≡ next_count self.old.faults) }
+        ensures kept { OnOk result (self.new.faults ≡ self.old.faults) }
+    {
         match self.reader.read(buf) {
             Ok(count) => Ok(count),
             Err(_) => {
@@ -46,7 +60,9 @@ pub struct StdSink<W: Write + Drop> {
 
 impl<W: Write + Drop> StdSink<W> {
     /// A sink that has not failed yet.
-    pub fn new(writer: W) -> StdSink<W> {
+    pub fn new(writer: W) -> StdSink<W>
+        ensures { result.faults ≡ 0 }
+    {
         StdSink { writer, faults: 0 }
     }
 }
@@ -65,7 +81,17 @@ impl<W: Write + Drop> Sink for StdSink<W> {
 
     ghost faults = { λ s. s.faults };
 
-    fn write(&mut self, piece: &[u8]) -> Result<usize, Failed> {
+    fn write(&mut self, piece: &[u8]) -> Result<usize, Failed>
+        requires { 0 < length piece.now }
+        ensures some { IfOk result (λ count. 0 < count) }
+        ensures bound { IfOk result (λ count. count ≤ length piece.now) }
+        ensures bytes { WriteAppends None None result piece.now }
+        ensures cause { HasCause self.old.faults self.new.faults result }
+
+        // The count is raised at each fault alone.
+        ensures counted { OnErr result (self.new.faults ≡ next_count self.old.faults) }
+        ensures kept { OnOk result (self.new.faults ≡ self.old.faults) }
+    {
         match put(&mut self.writer, piece) {
             Ok(count) if count > 0 => Ok(count),
             _ => {
@@ -77,7 +103,7 @@ impl<W: Write + Drop> Sink for StdSink<W> {
 }
 
 /// The words of the command line without the program's name. Where they are not all text they are one empty word, which is
-/// accepted nowhere.
+/// accepted nowhere. No clause can say what the system passes.
 pub fn words_of(rt: &HostRuntime) -> Result<Vec<String>, Memory> {
     let mut words = Vec::new(rt.alloc());
     match env::args(rt) {

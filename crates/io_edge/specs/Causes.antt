@@ -1,7 +1,7 @@
 -- When a call may answer that the outside failed.
 use Rattle.std.specs.Prelude.{ℕ, ◌+◌, ◌-◌, ◌^◌, ◌≤◌, min, OnErr, Result}
 
--- a count of 64 bits, next_count by one: it stands still at its end
+-- a count of 64 bits, raised by one: it stands still at its end
 abbrev pub next_count : ℕ → ℕ
 next_count count = min (count + 1) (2 ^ 64 - 1)
 

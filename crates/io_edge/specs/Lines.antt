@@ -1,4 +1,4 @@
--- The lines of a text.
+-- The lines of a text, as DIMACS and its kin are read: each ends with an LF, which the last one may lack.
 use Rattle.std.specs.Prelude.{◌≢◌, ℕ, ◌+◌, ◌<◌, ◌≤◌, ◌==◌, if◌then◌else◌, List, [], ◌∷◌, length, All}
 
 -- a byte before the first line

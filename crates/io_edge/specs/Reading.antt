@@ -86,6 +86,7 @@ is_last (Ok (Line n)) = false
 is_last (Ok (End n)) = true
 is_last (Err e) = true
 
+-- the end of the lines
 abbrev pub IsEnd : LineGot → Type 0
 IsEnd (Line n) = ⊥
 IsEnd (End n) = Unit {0}

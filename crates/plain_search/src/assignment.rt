@@ -93,7 +93,7 @@ impl Assignment {
         Some(step)
     }
 
-    /// The least variable that has no value. Only the place where the next call begins to look may change.
+    /// A variable that has no value. All below the place where a call begins to look have one. Only the place where the next call begins to look may change.
     pub fn first_free(&mut self) -> Option<Var>
         ensures same { self.new ≡ self.old }
         ensures some { IfSome result (λ v. (v ≤ self.old.vars) × (value_in self.old.steps (pos_lit v) ≡ None)) }
@@ -108,7 +108,7 @@ impl Assignment {
         None
     }
 
-    /// The values of the variables, where those without one are true.
+    /// A list that agrees with the assignment. Any value serves for a variable without one; it gets true.
     pub fn model(&self, alloc: Global) -> Result<Vec<bool>, Memory>
         ensures length { IfOk result (λ m. length m.items ≡ self.now.vars) }
         ensures agrees { IfOk result (λ m. Agrees (values m.items) self.now.vars self.now.steps) }

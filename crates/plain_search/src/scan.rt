@@ -15,7 +15,7 @@ pub enum Finding {
     Conflict,
     /// This literal has to be true: the others of a clause are false.
     Forced(Lit),
-    /// A clause has no true literal, and some without a value.
+    /// Some clause has a literal without a value.
     Undecided,
     /// Each clause has a true literal.
     Met,

@@ -15,6 +15,7 @@ runs_within n zero ws = []
 runs_within n (suc most) [] = []
 runs_within n (suc most) (w ∷ ws) = take n (w ∷ ws) ∷ runs_within n most (drop n (w ∷ ws))
 
+-- the words cut into runs of n
 abbrev pub runs : ℕ → List (List ℕ) → List (List (List ℕ))
 runs n ws = runs_within n (length ws) ws
 
@@ -31,9 +32,11 @@ abbrev pub true_lits : ℕ → List Bool → List ℕ
 true_lits n [] = []
 true_lits n (b ∷ bs) = (if b then pos_lit n else neg_lit n) ∷ true_lits (n + 1) bs
 
+-- what is printed for a reply
 abbrev pub reply_text : Reply → List ℕ
 reply_text (Sat m) = codes "s SATISFIABLE\n" ++ wrap (codes "v ") (true_lits 1 m)
 reply_text (Unsat core) = codes "s UNSATISFIABLE\n" ++ wrap (codes "f ") core
 
+-- and for replies, one after another
 abbrev pub replies_text : List Reply → List ℕ
 replies_text rs = flat_map reply_text rs

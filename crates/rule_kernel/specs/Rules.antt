@@ -1,7 +1,8 @@
 -- The rules of incremental inprocessing (after Fazekas, Biere, Scholl, SAT 2019): when each may be used, and what it changes.
 use Rattle.std.specs.Prelude.{◌≡◌, ℕ, ◌+◌, ◌<◌, ◌^◌, min, true, List, [], ◌∷◌, ◌++◌, length, drop, remove}
 use Rattle.sat_terms.specs.Normal.{IsNormal}
-use Rattle.redundancy.specs.Redundancy.{Witnesses, Clean, Implies, entry}
+use Rattle.sat_terms.specs.Truth.{Assignment}
+use Rattle.redundancy.specs.Redundancy.{Witnesses, Clean, Implies, StackTrue, entry, extend}
 use Rattle.clause_store.specs.declared.stored.Keep.TheVariants.{Firm, Redundant}
 use Rattle.clause_store.specs.Stored.{Stored, slot, slot_lits, is_firm, is_redundant, FirmTrue, OthersTrue, Fills, Frees}
 use Rattle.rule_kernel.specs.State.{State, IsChained}
@@ -100,6 +101,11 @@ Applies (Forget id) old new = Forgets old new id
 abbrev pub Run : List Rule → State → State → Type 0
 Run [] old new = new ≡ old
 Run (rule ∷ rules) old new = (mid : State) × Applies rule old mid × Run rules mid new
+
+-- From the chain: an assignment that makes the firm clauses true, extended by the stack, makes the firm clauses and the clauses
+-- of the stack true.
+abbrev pub ChainExtends : Type 0
+ChainExtends = (s : State) (f : Assignment) → IsChained s → FirmTrue s.store f → FirmTrue s.store (extend f s.stack) × StackTrue (extend f s.stack) s.stack
 
 -- whatever rules are used, the chain is kept
 abbrev pub RulesKeepChain : Type 0

@@ -7,6 +7,9 @@ use std::marker::Model;
 /// The greatest variable.
 pub const MAX_VAR: u32 = 4_194_303;
 
+/// The most literals of an input, and of what a solver is handed, 2^27.
+pub const MAX_LITERALS: u64 = 134_217_728;
+
 /// A variable. Contracts see its number, from 1 to `MAX_VAR`.
 #[derive(Clone, Copy, Debug, PartialEq, Eq, PartialOrd, Ord, Hash)]
 pub struct Var {

@@ -1,4 +1,4 @@
--- Normal clauses.
+-- Normal clauses, the one form in which a clause is stored: sorted, and neither repeating a literal nor a tautology.
 use Rattle.std.specs.Prelude.{◌≢◌, ℕ, ◌<◌, List, AllPairs}
 use Rattle.sat_terms.specs.Literal.{var_of}
 

@@ -40,10 +40,10 @@ pub enum Outcome {
 /// Why a call is refused.
 #[derive(Clone, Copy, Debug, PartialEq, Eq, Error)]
 pub enum Refusal {
-    /// A model was asked for, and the last call was no solve that found one.
+    /// A model was asked for, and none is shown.
     #[error("no model")]
     NotSat,
-    /// A core was asked for, and the last call was no solve that found one.
+    /// A core was asked for, and none is shown.
     #[error("no core")]
     NotUnsat,
     /// The solver takes no constraints of this kind. No call answers so yet.

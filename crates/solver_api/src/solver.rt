@@ -10,14 +10,11 @@ use crate::givens::Givens;
 use crate::literals::{greatest_of, settles, stands_in};
 use crate::mode::{Mode, Values};
 use sat_model::lists::Lits;
-use sat_model::literal::Lit;
+use sat_model::literal::{Lit, MAX_LITERALS};
 use sat_model::memory::Memory;
 use sat_model::truth::lit_true;
 use std::alloc::Global;
 use std::mem;
-
-/// The most literals that a solver takes, over all calls.
-pub const MAX_LITERALS: u64 = 134_217_728;
 
 /// A solver. It is given clauses, and answers queries under assumptions.
 ///

@@ -1,6 +1,7 @@
 //! Tests of a solver.
 
 use crate::calls::{Call, Outcome, Refusal};
+use crate::givens::GivenPart;
 use crate::solver::Solver;
 use sat_model::constraint::Kind;
 use sat_model::lists::Lits;
@@ -116,6 +117,14 @@ fn keeps_its_lists(rt: HostRuntime) -> Result<(), Fail> {
     run(&rt, alloc, &[Row::Give(&[]), Row::Ask(&[5], "unsat")])?;
     let mut solver = Solver::new(alloc)?;
     give(&rt, alloc, &mut solver, &[1, 2])?;
+    let given = solver.step(&Call::Add(Lits::from_slice(alloc, &[lit(&rt, 3)])?));
+    let parts = solver.given();
+    assert_eq!(rt; parts.len(), 2);
+    let size = match parts.part(1) {
+        GivenPart::Clause(clause) => clause.as_slice().len(),
+        GivenPart::Rule(_) => 0,
+    };
+    assert!(rt; size == 1 && !parts.is_empty());
     let assumed = solver.step(&Call::Assume(lit(&rt, 1)));
     let solved = solver.step(&Call::Solve);
     let lists = (
@@ -123,8 +132,14 @@ fn keeps_its_lists(rt: HostRuntime) -> Result<(), Fail> {
         solver.queried().len(),
         solver.assumed().len(),
     );
-    let found = format!(in alloc; "{assumed:?} {solved:?} {lists:?} {}", solver.taken())?;
-    assert_eq!(rt; found.as_str(), "Ok(Done) Ok(Solved(Sat)) (1, 1, 0) 3");
+    let found = format!(in alloc;
+        "{given:?} {assumed:?} {solved:?} {lists:?} {}",
+        solver.taken()
+    )?;
+    assert_eq!(rt;
+        found.as_str(),
+        "Ok(Done) Ok(Done) Ok(Solved(Sat)) (2, 1, 0) 4"
+    );
     Ok(())
 }
 

@@ -3,7 +3,7 @@ use Rattle.std.specs.Io.KnownBytes.{IsAtEnd}
 use Rattle.io_edge.specs.Reading.{rest_of}
 use Rattle.icnf_reader.specs.WordState.{word_fuel}
 use Rattle.solver_api.specs.Steps.{state}
-use Rattle.icnf_runner.specs.Session.{HasCome}
+use Rattle.icnf_runner.proofs.Course.{HasCome}
 use Rattle.icnf_runner.proofs.run.run_input.Given as goal
 
 abbrev pub invariant-loop-solver : goal.invariant-loop-solver
