@@ -1,0 +1,5 @@
+pub mod Places
+pub mod Levels
+pub mod Changes
+pub mod Backing
+pub mod Ranks

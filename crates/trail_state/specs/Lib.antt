@@ -1,0 +1,4 @@
+pub mod Trail
+pub mod Table
+pub mod Clauses
+pub mod Rank
