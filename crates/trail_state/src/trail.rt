@@ -2,6 +2,7 @@
 ghost use Rattle.std.specs.Prelude.{◌≡◌, ◌≢◌, ◌<◌, ◌≤◌, ◌+◌, ◌^◌, ℕ, [], ◌∷◌, ◌++◌, length, max, None, OnOk, OnErr};
 ghost use Rattle.sat_terms.specs.Literal.{var_of};
 ghost use Rattle.trail_state.specs.Trail.{step, lits_of, value_on, level_on, reason_on, place_on, level_after, IsTrail, IsBack, HasRoom};
+ghost use Rattle.trail_state.specs.Rank.{rank};
 ghost use Rattle.trail_state.specs.declared.reason.Reason.TheVariants.{Decision};
 
 use crate::reason::Reason;
@@ -96,6 +97,13 @@ impl Trail {
         let _ = &self.level;
     }
 
+    /// The rank is a number of as many digits as variables are declared. The call does nothing.
+    pub fn has_rank(&self)
+        ensures { rank self.now.declared self.now.steps < 3 ^ self.now.declared }
+    {
+        let _ = &self.level;
+    }
+
     /// The literals, oldest first.
     pub fn lits(&self) -> &[Lit]
         ensures { result.now ≡ lits_of self.now.steps }
@@ -158,6 +166,7 @@ impl Trail {
         ensures steps { self.new.steps ≡ self.old.steps ++ record { lit = lit; level = self.old.level; reason = reason } ∷ [] }
         ensures level { self.new.level ≡ self.old.level }
         ensures declared { self.new.declared ≡ self.old.declared }
+        ensures rises { rank self.old.declared self.old.steps < rank self.new.declared self.new.steps }
     {
         let level = self.level;
         self.append(lit, level, reason);
@@ -170,6 +179,7 @@ impl Trail {
         ensures steps { self.new.steps ≡ self.old.steps ++ record { lit = lit; level = self.old.level + 1; reason = Decision } ∷ [] }
         ensures level { self.new.level ≡ self.old.level + 1 }
         ensures declared { self.new.declared ≡ self.old.declared }
+        ensures rises { rank self.old.declared self.old.steps < rank self.new.declared self.new.steps }
     {
         let level = self.level + 1;
         self.append(lit, level, Reason::Decision);
@@ -183,7 +193,9 @@ impl Trail {
         ensures steps { self.new.steps ≡ self.old.steps ++ record { lit = lit; level = level; reason = reason } ∷ [] }
         ensures level { self.new.level ≡ level }
         ensures declared { self.new.declared ≡ self.old.declared }
+        ensures rises { rank self.old.declared self.old.steps < rank self.new.declared self.new.steps }
     {
+        let at = lit.var().index() as usize - 1;
         match self.lits.push(lit) {
             Ok(()) => {}
             Err(_) => unreachable!(),
@@ -192,7 +204,7 @@ impl Trail {
             Ok(()) => {}
             Err(_) => unreachable!(),
         }
-        self.places[lit.var().index() as usize - 1] = self.lits.len() as u32;
+        self.places[at] = self.lits.len() as u32;
         self.level = level;
     }
 
@@ -204,7 +216,8 @@ impl Trail {
         let mut kept = self.steps.len();
         while kept > 0 && self.steps[kept - 1].level > level {
             kept -= 1;
-            self.places[self.lits[kept].var().index() as usize - 1] = 0;
+            let at = self.lits[kept].var().index() as usize - 1;
+            self.places[at] = 0;
         }
         self.lits.truncate(kept);
         self.steps.truncate(kept);

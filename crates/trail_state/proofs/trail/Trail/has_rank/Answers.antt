@@ -1,0 +1,6 @@
+use Rattle.std.proofs.Common.{arith}
+use Rattle.trail_state.proofs.Ranks.{rank-bound}
+use Rattle.trail_state.proofs.trail.Trail.has_rank.Goals as goal
+
+pub returns : goal.returns
+returns c = rank-bound _ _
