@@ -1,13 +1,13 @@
 -- The walk back to a level.
-use Rattle.std.proofs.Common.{◌≡◌, ◌≢◌, ℕ, suc, zero, ◌+◌, ◌-◌, ◌<◌, ◌≤◌, Bool, true, false, cond, eqb, List, [], ◌∷◌, length, length-set, get_or, set, take, inl, inr, refl, sym, ap, ◌∙◌, subst, arith}
-use Rattle.std.specs.Prelude.{count_by, sum_by}
+use Rattle.std.proofs.Common.{◌≡◌, ◌≢◌, ℕ, suc, ◌+◌, ◌-◌, ◌<◌, ◌≤◌, false, eqb, List, length, length-set, get_or, set, take, inl, inr, refl, sym, ◌∙◌, arith}
+use Rattle.std.specs.Prelude.{sum_by}
 use Rattle.std.proofs.lemmas.Bool.{cases_eq, ne_eqb}
-use Rattle.std.proofs.lemmas.List.{take-map, get_or-take, get_or_read, length-take-le, get_or-set_same, get_or-set_other, take-take, take_all}
+use Rattle.std.proofs.lemmas.List.{take-map, get_or-take, length-take-le, get_or-set_same, get_or-set_other, take-take, take_all}
 use Rattle.std.proofs.lemmas.List.Sums.{sum_by-set}
 use Rattle.sat_terms.specs.Literal.{var_of}
 use Rattle.trail_state.specs.declared.trail.Step.{Step}
 use Rattle.trail_state.specs.Trail.{step, no_step, lits_of, IsApart, IsTrail}
-use Rattle.trail_state.specs.Table.{entry, IsPlaced, TableFits, IsHeld}
+use Rattle.trail_state.specs.Table.{entry, TableFits, IsHeld}
 use Rattle.trail_state.proofs.Levels.{rising, levelled_back}
 use Rattle.trail_state.proofs.Changes.{empty_weight}
 use Rattle.trail_state.proofs.Places.{lit_read, step_read}
@@ -33,49 +33,49 @@ table_pop p t k fits long =
     let size' = length-set p (v - 1) 0 in
     record {
       placed = λ i a.
-        let a' : i < k = omega arith in
-        let q = fits.placed i (omega arith) in
-        let other : var_of (step t i).lit ≢ v = λ e. absurd (let z = fits.apart i k (omega arith) (omega arith) e in omega arith) in
-        let m = q.named in
-        let other' : var_of (step t i).lit - 1 ≢ v - 1 = λ e. other (omega arith) in
-        rw (step_take t k i a') (record { named = q.named; declared = rw size' q.declared; here = get_or-set_other p (v - 1) (var_of (step t i).lit - 1) 0 0 other' ∙ q.here });
+          let a' : i < k = omega arith in
+          let q = fits.placed i (omega arith) in
+          let other : var_of (step t i).lit ≢ v = λ e. absurd (let z = fits.apart i k (omega arith) (omega arith) e in omega arith) in
+          let m = q.named in
+          let other' : var_of (step t i).lit - 1 ≢ v - 1 = λ e. other (omega arith) in
+          rw (step_take t k i a') (record { named = q.named; declared = rw size' q.declared; here = get_or-set_other p (v - 1) (var_of (step t i).lit - 1) 0 0 other' ∙ q.here });
       within = λ u q a.
-        elim (cases_eq u v) [
-          | inl e ↦ rw e (let z = get_or-set_same p (v - 1) 0 0 below in omega arith)
-          | inr n ↦
-              let n' : u - 1 ≢ v - 1 = λ e. n (omega arith) in
-              let r : entry (set p (v - 1) 0) u ≡ entry p u = get_or-set_other p (v - 1) (u - 1) 0 0 n' in
-              let a' : u ≤ length p = rw size' at a in
-              let w = fits.within u q a' in
-              elim (cases_eq (entry p u) (suc k)) [
-                | inl e ↦ absurd (let b = fits.back u q a' (omega arith) in let i : entry p u - 1 ≡ k = omega arith in n (sym (rw i at b)))
-                | inr m ↦ omega arith
-              ]
-        ];
+          elim (cases_eq u v) [
+            | inl e ↦ rw e (let z = get_or-set_same p (v - 1) 0 0 below in omega arith)
+            | inr n ↦
+                let n' : u - 1 ≢ v - 1 = λ e. n (omega arith) in
+                let r : entry (set p (v - 1) 0) u ≡ entry p u = get_or-set_other p (v - 1) (u - 1) 0 0 n' in
+                let a' : u ≤ length p = rw size' at a in
+                let w = fits.within u q a' in
+                elim (cases_eq (entry p u) (suc k)) [
+                  | inl e ↦ absurd (let b = fits.back u q a' (omega arith) in let i : entry p u - 1 ≡ k = omega arith in n (sym (rw i at b)))
+                  | inr m ↦ omega arith
+                ]
+          ];
       back = λ u q a some.
-        elim (cases_eq u v) [
-          | inl e ↦ absurd (let z : entry (set p (v - 1) 0) u ≡ 0 = rw e (get_or-set_same p (v - 1) 0 0 below) in omega arith)
-          | inr n ↦
-              let n' : u - 1 ≢ v - 1 = λ e. n (omega arith) in
-              let r : entry (set p (v - 1) 0) u ≡ entry p u = get_or-set_other p (v - 1) (u - 1) 0 0 n' in
-              let a' : u ≤ length p = rw size' at a in
-              let some' : 0 < entry p u = rw r at some in
-              let w = fits.within u q a' in
-              let b = fits.back u q a' some' in
-              let low : entry p u - 1 < k =
-                  elim (cases_eq (entry p u - 1) k) [
-                    | inl e ↦ absurd (n (sym (rw e at b)))
-                    | inr m ↦ omega arith
-                  ] in
-              rw (r, step_take t k (entry p u - 1) low) b
-        ];
+          elim (cases_eq u v) [
+            | inl e ↦ absurd (let z : entry (set p (v - 1) 0) u ≡ 0 = rw e (get_or-set_same p (v - 1) 0 0 below) in omega arith)
+            | inr n ↦
+                let n' : u - 1 ≢ v - 1 = λ e. n (omega arith) in
+                let r : entry (set p (v - 1) 0) u ≡ entry p u = get_or-set_other p (v - 1) (u - 1) 0 0 n' in
+                let a' : u ≤ length p = rw size' at a in
+                let some' : 0 < entry p u = rw r at some in
+                let w = fits.within u q a' in
+                let b = fits.back u q a' some' in
+                let low : entry p u - 1 < k =
+                elim (cases_eq (entry p u - 1) k) [
+                  | inl e ↦ absurd (n (sym (rw e at b)))
+                  | inr m ↦ omega arith
+                ] in
+                rw (r, step_take t k (entry p u - 1) low) b
+          ];
       apart = apart_take t k (omega arith) fits.apart;
       filled =
-        (let e : sum_by empty_weight (set p (v - 1) 0) + empty_weight (entry p v) ≡ sum_by empty_weight p + empty_weight 0 = sum_by-set empty_weight p (v - 1) 0 0 below in
-        let off : eqb (entry p v) 0 ≡ false = ne_eqb (entry p v) 0 (λ q. absurd (let r = h.here in omega arith)) in
-        let e' : sum_by empty_weight (set p (v - 1) 0) + 0 ≡ sum_by empty_weight p + 1 = rw off at e in
-        let filled = fits.filled in
-        omega arith);
+          (let e : sum_by empty_weight (set p (v - 1) 0) + empty_weight (entry p v) ≡ sum_by empty_weight p + empty_weight 0 = sum_by-set empty_weight p (v - 1) 0 0 below in
+          let off : eqb (entry p v) 0 ≡ false = ne_eqb (entry p v) 0 (λ q. absurd (let r = h.here in omega arith)) in
+          let e' : sum_by empty_weight (set p (v - 1) 0) + 0 ≡ sum_by empty_weight p + 1 = rw off at e in
+          let filled = fits.filled in
+          omega arith);
       few = rw size' fits.few;
     }
 
@@ -112,10 +112,10 @@ falling_turn t p n kept level size at l x f is x-is gt l-is at-is =
       table = rw at' (rw (here, take-take kept (suc kept) t (omega arith)) at popped);
       sized = length-set p at 0 ∙ f.sized;
       high = λ i a b.
-        elim (cases_eq i kept) [
-          | inl e ↦ rw (e, ← x-at) gt
-          | inr m ↦ f.high i (omega arith) b
-        ];
+          elim (cases_eq i kept) [
+            | inl e ↦ rw (e, ← x-at) gt
+            | inr m ↦ f.high i (omega arith) b
+          ];
     }
 
 -- where the walk stops, all below stands at the level or below it
@@ -152,10 +152,10 @@ held_back lits lits' p0 p t t' top level room room' room2 room2' kept held f le 
     let a = held.lits_room in
     let b = held.steps_room in
     rw (lits-is, t-is)
-      (record {
-        same = rw held.same (take-map (λ x. x.lit) kept t);
-        table = f.table;
-        shape = shape_back t top level kept held.shape le f.within low f.high;
-        lits_room = omega arith;
-        steps_room = omega arith;
-      })
+    (record {
+      same = rw held.same (take-map (λ x. x.lit) kept t);
+      table = f.table;
+      shape = shape_back t top level kept held.shape le f.within low f.high;
+      lits_room = omega arith;
+      steps_room = omega arith;
+    })

@@ -1,5 +1,5 @@
 -- What a literal more, and a variable more, make of the table and the shape.
-use Rattle.std.proofs.Common.{◌≡◌, ◌≢◌, ℕ, suc, zero, ◌+◌, ◌-◌, ◌^◌, ◌<◌, ◌≤◌, Bool, true, false, cond, eqb, List, [], ◌∷◌, ◌++◌, length, length-set, get_or, set, take, map, replicate, length-append, ◌⊎◌, inl, inr, refl, sym, ap, ◌∙◌, arith, append_assoc, Option, Some, None}
+use Rattle.std.proofs.Common.{◌≡◌, ◌≢◌, ℕ, suc, zero, ◌+◌, ◌-◌, ◌^◌, ◌<◌, ◌≤◌, false, cond, eqb, List, [], ◌∷◌, ◌++◌, length, length-set, get_or, set, take, replicate, length-append, ◌⊎◌, inl, inr, refl, sym, ap, ◌∙◌, arith, append_assoc, None}
 use Rattle.std.specs.Prelude.{count_by, sum_by}
 use Rattle.std.proofs.lemmas.Bool.{cases_eq, cases_lt, ne_eqb}
 use Rattle.std.proofs.lemmas.List.{append-nil, length-map, take_all, length-replicate, get_or_append_left, get_or_push, get_or-set_same, get_or-set_other, length_push}
@@ -8,7 +8,7 @@ use Rattle.sat_terms.specs.Literal.{var_of}
 use Rattle.trail_state.specs.declared.trail.Step.{Step}
 use Rattle.trail_state.specs.declared.reason.Reason.{Reason}
 use Rattle.trail_state.specs.Trail.{step, no_step, lits_of, value_on, level_after, IsApart, IsTrail}
-use Rattle.trail_state.specs.Table.{entry, IsPlaced, TableFits, IsHeld}
+use Rattle.trail_state.specs.Table.{entry, TableFits, IsHeld}
 use Rattle.trail_state.proofs.Levels.{levelled_push}
 use Rattle.trail_state.proofs.Places.{nowhere}
 
@@ -76,46 +76,46 @@ table_push p t x fits pos in' other =
     let below : v - 1 < length p = omega arith in
     record {
       placed = λ i a.
-        elim (old_or_new t x i a) [
-          | inl i-old ↦
-              let h = fits.placed i i-old in
-              let n = other i i-old in
-              let m = h.named in
-              let n' : var_of (step t i).lit - 1 ≢ v - 1 = λ e. n (omega arith) in
-              rw (step_old t x i i-old) (record { named = h.named; declared = rw long h.declared; here = get_or-set_other p (v - 1) (var_of (step t i).lit - 1) k 0 n' ∙ h.here })
-          | inr e ↦ rw (e, step_new t x) (record { named = pos; declared = rw long in'; here = get_or-set_same p (v - 1) k 0 below })
-        ];
+          elim (old_or_new t x i a) [
+            | inl i-old ↦
+                let h = fits.placed i i-old in
+                let n = other i i-old in
+                let m = h.named in
+                let n' : var_of (step t i).lit - 1 ≢ v - 1 = λ e. n (omega arith) in
+                rw (step_old t x i i-old) (record { named = h.named; declared = rw long h.declared; here = get_or-set_other p (v - 1) (var_of (step t i).lit - 1) k 0 n' ∙ h.here })
+            | inr e ↦ rw (e, step_new t x) (record { named = pos; declared = rw long in'; here = get_or-set_same p (v - 1) k 0 below })
+          ];
       within = λ u q a.
-        elim (cases_eq u v) [
-          | inl e ↦ rw (e, longer) (let r = get_or-set_same p (v - 1) k 0 below in omega arith)
-          | inr n ↦
-              let n' : u - 1 ≢ v - 1 = λ e. n (omega arith) in
-              let r = get_or-set_other p (v - 1) (u - 1) k 0 n' in
-              let w = fits.within u q (rw long at a) in
-              rw longer (omega arith)
-        ];
+          elim (cases_eq u v) [
+            | inl e ↦ rw (e, longer) (let r = get_or-set_same p (v - 1) k 0 below in omega arith)
+            | inr n ↦
+                let n' : u - 1 ≢ v - 1 = λ e. n (omega arith) in
+                let r = get_or-set_other p (v - 1) (u - 1) k 0 n' in
+                let w = fits.within u q (rw long at a) in
+                rw longer (omega arith)
+          ];
       back = λ u q a some.
-        elim (cases_eq u v) [
-          | inl e ↦
-              let r : entry (set p (v - 1) k) u ≡ k = rw e (get_or-set_same p (v - 1) k 0 below) in
-              let at : k - 1 ≡ length t = omega arith in
-              rw (r, at, step_new t x) (sym e)
-          | inr n ↦
-              let n' : u - 1 ≢ v - 1 = λ e. n (omega arith) in
-              let r : entry (set p (v - 1) k) u ≡ entry p u = get_or-set_other p (v - 1) (u - 1) k 0 n' in
-              let a' : u ≤ length p = rw long at a in
-              let some' : 0 < entry p u = rw r at some in
-              let w = fits.within u q a' in
-              rw (r, step_old t x (entry p u - 1) (omega arith)) (fits.back u q a' some')
-        ];
+          elim (cases_eq u v) [
+            | inl e ↦
+                let r : entry (set p (v - 1) k) u ≡ k = rw e (get_or-set_same p (v - 1) k 0 below) in
+                let at : k - 1 ≡ length t = omega arith in
+                rw (r, at, step_new t x) (sym e)
+            | inr n ↦
+                let n' : u - 1 ≢ v - 1 = λ e. n (omega arith) in
+                let r : entry (set p (v - 1) k) u ≡ entry p u = get_or-set_other p (v - 1) (u - 1) k 0 n' in
+                let a' : u ≤ length p = rw long at a in
+                let some' : 0 < entry p u = rw r at some in
+                let w = fits.within u q a' in
+                rw (r, step_old t x (entry p u - 1) (omega arith)) (fits.back u q a' some')
+          ];
       apart = apart_push t x fits.apart other;
       filled =
-        (let z = entry_zero p t v fits pos in' other in
-        let e : sum_by empty_weight (set p (v - 1) k) + empty_weight (entry p v) ≡ sum_by empty_weight p + empty_weight k = sum_by-set empty_weight p (v - 1) k 0 below in
-        let off : eqb k 0 ≡ false = ne_eqb k 0 (λ q. absurd (omega arith)) in
-        let e' : sum_by empty_weight (set p (v - 1) k) + 1 ≡ sum_by empty_weight p + 0 = rw (z, off) at e in
-        let filled = fits.filled in
-        rw (long, longer) (omega arith));
+          (let z = entry_zero p t v fits pos in' other in
+          let e : sum_by empty_weight (set p (v - 1) k) + empty_weight (entry p v) ≡ sum_by empty_weight p + empty_weight k = sum_by-set empty_weight p (v - 1) k 0 below in
+          let off : eqb k 0 ≡ false = ne_eqb k 0 (λ q. absurd (omega arith)) in
+          let e' : sum_by empty_weight (set p (v - 1) k) + 1 ≡ sum_by empty_weight p + 0 = rw (z, off) at e in
+          let filled = fits.filled in
+          rw (long, longer) (omega arith));
       few = rw long fits.few;
     }
 
@@ -131,26 +131,26 @@ table_wider p t fits few =
     let long = length_push p 0 in
     record {
       placed = λ i a.
-        let h = fits.placed i a in
-        let v = var_of (step t i).lit in
-        let d = h.declared in
-        let n = h.named in
-        record { named = h.named; declared = rw long (omega arith); here = get_or_append_left p (0 ∷ []) 0 (v - 1) (omega arith) ∙ h.here };
+          let h = fits.placed i a in
+          let v = var_of (step t i).lit in
+          let d = h.declared in
+          let n = h.named in
+          record { named = h.named; declared = rw long (omega arith); here = get_or_append_left p (0 ∷ []) 0 (v - 1) (omega arith) ∙ h.here };
       within = λ v q a.
-        elim (cases_lt (v - 1) (length p)) [
-          | inl b ↦ rw (get_or_append_left p (0 ∷ []) 0 (v - 1) b) (fits.within v q (omega arith))
-          | inr ge ↦ (let z : get_or (p ++ 0 ∷ []) (v - 1) 0 ≡ 0 = get_or_push p 0 0 (v - 1) (omega arith) in omega arith)
-        ];
+          elim (cases_lt (v - 1) (length p)) [
+            | inl b ↦ rw (get_or_append_left p (0 ∷ []) 0 (v - 1) b) (fits.within v q (omega arith))
+            | inr ge ↦ (let z : get_or (p ++ 0 ∷ []) (v - 1) 0 ≡ 0 = get_or_push p 0 0 (v - 1) (omega arith) in omega arith)
+          ];
       back = λ v q a some.
-        elim (cases_lt (v - 1) (length p)) [
-          | inl b ↦ let same = get_or_append_left p (0 ∷ []) 0 (v - 1) b in rw same (fits.back v q (omega arith) (rw same at some))
-          | inr ge ↦ absurd (let z : get_or (p ++ 0 ∷ []) (v - 1) 0 ≡ 0 = get_or_push p 0 0 (v - 1) (omega arith) in omega arith)
-        ];
+          elim (cases_lt (v - 1) (length p)) [
+            | inl b ↦ let same = get_or_append_left p (0 ∷ []) 0 (v - 1) b in rw same (fits.back v q (omega arith) (rw same at some))
+            | inr ge ↦ absurd (let z : get_or (p ++ 0 ∷ []) (v - 1) 0 ≡ 0 = get_or_push p 0 0 (v - 1) (omega arith) in omega arith)
+          ];
       apart = fits.apart;
       filled =
-        (let e : count_by (λ y. eqb y 0) (p ++ 0 ∷ []) ≡ count_by (λ y. eqb y 0) p + 1 = sum_by_push empty_weight p 0 in
-        let f = fits.filled in
-        rw (long, e) (omega arith));
+          (let e : count_by (λ y. eqb y 0) (p ++ 0 ∷ []) ≡ count_by (λ y. eqb y 0) p + 1 = sum_by_push empty_weight p 0 in
+          let f = fits.filled in
+          rw (long, e) (omega arith));
       few = rw long few;
     }
 
@@ -195,13 +195,13 @@ held_push lits lits' p t t' top top' room room' room2 room2' l v n r held pos in
     let a = held.lits_room in
     let b = held.steps_room in
     rw (v-is, n-is', t-is, lits-is)
-      (record {
-        same = rw held.same (sym (lits_push t x));
-        table = table_push p t x held.table pos in' other;
-        shape = shape_push t top top' x held.shape other after refl;
-        lits_room = rw size (omega arith);
-        steps_room = rw size (omega arith);
-      })
+    (record {
+      same = rw held.same (sym (lits_push t x));
+      table = table_push p t x held.table pos in' other;
+      shape = shape_push t top top' x held.shape other after refl;
+      lits_room = rw size (omega arith);
+      steps_room = rw size (omega arith);
+    })
 
 -- what `declare` makes of the trail, as the code reads it
 pub held_declared : (lits p p' : List ℕ) (t : List Step) (top room room' room2 room2' had n count more : ℕ) → IsHeld lits p t top room room' → had ≡ length p → had < count → count < 2 ^ 22

@@ -1,14 +1,13 @@
 -- Laws of places, and of what the table of places has.
-use Rattle.std.proofs.Common.{◌≡◌, ◌≢◌, ℕ, suc, zero, ◌+◌, ◌-◌, ◌<◌, ◌≤◌, Bool, true, false, cond, eqb, List, [], ◌∷◌, length, get_or, map, ◌⊎◌, inl, inr, refl, sym, ap, ◌∙◌, arith, Option, Some, None}
+use Rattle.std.proofs.Common.{◌≡◌, ◌≢◌, ℕ, suc, zero, ◌+◌, ◌-◌, ◌<◌, ◌≤◌, Bool, true, false, eqb, List, [], ◌∷◌, length, get_or, inl, inr, refl, sym, ap, ◌∙◌, arith, Option, Some, None}
 use Rattle.std.specs.Prelude.{option_map, find}
-use Rattle.std.proofs.lemmas.Bool.{false≢true, false_from_ne_true, or_cases, or_left, or_right, eqb-true, eq-eqb, ne_eqb, cases_eq, cases_lt}
+use Rattle.std.proofs.lemmas.Bool.{false≢true, false_from_ne_true, or_cases, or_left, or_right, eqb-true, eq-eqb, ne_eqb, cases_eq}
 use Rattle.std.proofs.lemmas.List.{get_or_read, get_or-map}
 use Rattle.sat_terms.specs.Literal.{neg, var_of}
 use Rattle.sat_terms.proofs.Literals.{var_of-neg, same_var, neg-other}
 use Rattle.trail_state.specs.declared.trail.Step.{Step}
-use Rattle.trail_state.specs.declared.reason.Reason.{Reason}
 use Rattle.trail_state.specs.Trail.{step, no_step, lits_of, true_on, value_on, place_on, level_on, reason_on, IsApart}
-use Rattle.trail_state.specs.Table.{entry, IsPlaced, TableFits, IsHeld}
+use Rattle.trail_state.specs.Table.{entry, TableFits}
 
 -- a literal that is true stands at a place
 pub place_of_true : (t : List Step) (l : ℕ) → true_on t l ≡ true → (j : ℕ) × (j < length t) × ((step t j).lit ≡ l)
@@ -115,9 +114,9 @@ value_at t l k apart h =
       | inr n ↦
           let other : x ≢ l = λ e. neg-other l (sym n ∙ e) in
           let off : true_on t l ≡ false = false_from_ne_true (true_on t l) (λ on.
-            let r = place_of_true t l on in
-            let same = apart r.0 k r.1 at.0 (ap var_of r.2 ∙ sym at.1) in
-            other (sym (ap (λ i. (step t i).lit) same) ∙ r.2)) in
+          let r = place_of_true t l on in
+          let same = apart r.0 k r.1 at.0 (ap var_of r.2 ∙ sym at.1) in
+          other (sym (ap (λ i. (step t i).lit) same) ∙ r.2)) in
           rw (ne_eqb x l other, off, true_at_place t k (neg l) at.0 n) refl
     ]
 
@@ -133,9 +132,9 @@ nowhere t l free j in' same =
       | inl e ↦ absurd (let f : Some true ≡ None = rw (true_at_place t j l in' e) at free in cc)
       | inr n ↦ two (true_on t l) refl (true_at_place t j (neg l) in' n)
     ] where
-  two : (b : Bool) → true_on t l ≡ b → true_on t (neg l) ≡ true → ⊥
-  two true h m = let f : Some true ≡ None = rw h at free in cc
-  two false h m = let f : Some false ≡ None = rw (h, m) at free in cc
+      two : (b : Bool) → true_on t l ≡ b → true_on t (neg l) ≡ true → ⊥
+      two true h m = let f : Some true ≡ None = rw h at free in cc
+      two false h m = let f : Some false ≡ None = rw (h, m) at free in cc
 
 -- what the table says of a variable, as the code reads it: `at` is the variable's index, and `k` what stands there
 pub read_past : (p : List ℕ) (t : List Step) (v at : ℕ) → TableFits p t → 0 < v → at + 1 ≡ v → length p ≤ at → place_on t v ≡ None

@@ -16,6 +16,13 @@ fn is_open(trail: &Trail, lit: Lit) -> bool
     lit.var().index() <= trail.declared() && trail.value(lit).is_none()
 }
 
+// Assigns a literal that is open, as a clause of this number implies it.
+fn imply(trail: &mut Trail, lit: Lit, number: usize) {
+    if is_open(trail, lit) {
+        trail.assign(lit, Reason::Clause(ClauseId::new(number)));
+    }
+}
+
 // What a trail says of a literal and of its variable: value, level, place and reason.
 fn facts(trail: &Trail, lit: Lit) -> (Option<bool>, Option<u32>, Option<u32>, Option<Reason>) {
     let var = lit.var();
@@ -32,19 +39,17 @@ fn literals_come_and_go(rt: HostRuntime) -> Result<(), Fail> {
     let one = Lit::new(1).ok_or("no literal")?;
     let not_two = Lit::new(-2).ok_or("no literal")?;
     let three = Lit::new(3).ok_or("no literal")?;
-    let because = Reason::Clause(ClauseId::new(7));
     let mut trail = Trail::new(rt.alloc());
     trail.declare(three.var())?;
     assert_eq!(rt; trail.declared(), 3);
     if is_open(&trail, one) {
         trail.decide(one);
     }
-    if is_open(&trail, not_two) {
-        trail.assign(not_two, because);
-    }
+    imply(&mut trail, not_two, 7);
     assert_eq!(rt; trail.level(), 1);
     assert_eq!(rt; trail.lits(), [one, not_two].as_slice());
     assert!(rt; facts(&trail, one) == (Some(true), Some(1), Some(0), Some(Reason::Decision)));
+    let because = Reason::Clause(ClauseId::new(7));
     assert!(rt; facts(&trail, not_two.neg()) == (Some(false), Some(1), Some(1), Some(because)));
     assert!(rt; facts(&trail, three) == (None, None, None, None));
     trail.back_to(0);

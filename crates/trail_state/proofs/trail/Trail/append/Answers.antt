@@ -1,4 +1,4 @@
-use Rattle.std.proofs.Common.{◌∙◌, ◌-◌, length-set, sym, arith}
+use Rattle.std.proofs.Common.{◌∙◌, ◌-◌, length-set, arith}
 use Rattle.trail_state.proofs.Changes.{held_room, held_push}
 use Rattle.trail_state.proofs.Ranks.{rank-push}
 use Rattle.trail_state.proofs.trail.Trail.append.Goals as goal
@@ -18,7 +18,7 @@ unreachable-requires-in-Err-push c =
 pub invariant_of-self : goal.invariant_of-self
 invariant_of-self c =
     held_push _ _ _ _ _ _ _ _ _ _ _ c.args.lit c.index.result c.len.result c.args.reason c.self.invariant c.var.ensures.range.0 (rw (← c.self.view_is) at c.requires.declared) (rw (← c.self.view_is) at c.requires.unassigned)
-      (rw (← c.self.view_is) at c.requires.follows) c.in-Ok.ensures.items c.in-Ok-push.ensures.items (omega (arith, c.len.ensures, c.push.new.self.ok.0)) (c.index.ensures.value ∙ c.var.ensures.value) c.in-Ok.ensures.capacity c.in-Ok-push.ensures.capacity
+    (rw (← c.self.view_is) at c.requires.follows) c.in-Ok.ensures.items c.in-Ok-push.ensures.items (omega (arith, c.len.ensures, c.push.new.self.ok.0)) (c.index.ensures.value ∙ c.var.ensures.value) c.in-Ok.ensures.capacity c.in-Ok-push.ensures.capacity
 
 pub returns-clause-rises : goal.returns-clause-rises
 returns-clause-rises c =

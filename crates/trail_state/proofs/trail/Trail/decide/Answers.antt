@@ -1,4 +1,4 @@
-use Rattle.std.proofs.Common.{sym, arith}
+use Rattle.std.proofs.Common.{arith}
 use Rattle.trail_state.proofs.Levels.{levelled_bound}
 use Rattle.trail_state.proofs.trail.Trail.decide.Goals as goal
 

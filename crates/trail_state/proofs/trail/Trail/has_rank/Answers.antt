@@ -1,4 +1,3 @@
-use Rattle.std.proofs.Common.{arith}
 use Rattle.trail_state.proofs.Ranks.{rank-bound}
 use Rattle.trail_state.proofs.trail.Trail.has_rank.Goals as goal
 

@@ -1,7 +1,7 @@
 use Rattle.std.proofs.Common.{◌≡◌, ◌∙◌, Some, eqb, length, sym, ap, arith}
 use Rattle.std.proofs.lemmas.List.{length-map}
 use Rattle.sat_terms.specs.Literal.{var_of}
-use Rattle.trail_state.specs.Trail.{place_on, lits_of, step}
+use Rattle.trail_state.specs.Trail.{place_on, step}
 use Rattle.trail_state.proofs.Places.{value_none, value_at, place_some, lit_read}
 use Rattle.trail_state.proofs.trail.Trail.value.Goals as goal
 use Rattle.trail_state.proofs.trail.Trail.value.Goals.{After-self}
