@@ -1,5 +1,5 @@
 //! Trails.
-ghost use Rattle.std.specs.Prelude.{◌≡◌, ◌≢◌, ◌<◌, ◌≤◌, ◌+◌, ◌^◌, ℕ, [], ◌∷◌, ◌++◌, length, max, None, OnOk, OnErr};
+ghost use Rattle.std.specs.Prelude.{◌≡◌, ◌≢◌, ◌<◌, ◌≤◌, ◌+◌, ◌^◌, ℕ, [], ◌∷◌, ◌++◌, length, max, None, OnOk, OnErr, IsOk};
 ghost use Rattle.sat_terms.specs.Literal.{var_of};
 ghost use Rattle.trail_state.specs.Trail.{step, lits_of, value_on, level_on, reason_on, place_on, level_after, IsTrail, IsBack, HasRoom};
 ghost use Rattle.trail_state.specs.Rank.{rank};
@@ -58,12 +58,14 @@ impl Trail {
         }
     }
 
-    /// Declares every variable up to `var`, and takes the memory of all later changes. After `Memory` nothing changed.
+    /// Declares every variable up to `var`, and takes the memory of all later changes. After `Memory` nothing changed. Where
+    /// `var` is declared already it takes none, and does nothing.
     pub fn declare(&mut self, var: Var) -> Result<(), Memory>
         ensures steps { self.new.steps ≡ self.old.steps }
         ensures level { self.new.level ≡ self.old.level }
         ensures ok { OnOk result (self.new.declared ≡ max self.old.declared var) }
         ensures err { OnErr result (self.new.declared ≡ self.old.declared) }
+        ensures known { var ≤ self.old.declared → IsOk result }
     {
         let count = var.index() as usize;
         if count <= self.places.len() {
