@@ -1,0 +1,3 @@
+pub mod Falses
+pub mod Reasons
+pub mod Blocking

@@ -1,0 +1,105 @@
+-- Laws of rooted trails.
+use Rattle.std.proofs.Common.{◌≡◌, ◌≢◌, ℕ, ◌<◌, true, List, [], ◌∷◌, ◌++◌, length, inl, inr, refl, sym, ap, ◌∙◌, subst, arith, Option}
+use Rattle.std.specs.Prelude.{IsSome}
+use Rattle.std.proofs.lemmas.Bool.{false≢true, eqb-true}
+use Rattle.std.proofs.lemmas.List.{take-append-le, take_at}
+use Rattle.std.proofs.Math.Bool.{or-false}
+use Rattle.sat_terms.specs.Literal.{has, neg}
+use Rattle.sat_terms.specs.Truth.{Assignment, lit_true}
+use Rattle.clause_store.specs.Stored.{Stored, StoreTrue, Fills, slot, slot_lits}
+use Rattle.trail_state.specs.declared.trail.Step.{Step}
+use Rattle.trail_state.specs.declared.reason.Reason.{Reason}
+use Rattle.trail_state.specs.declared.reason.Reason.TheVariants.{Decision, Clause, Theory}
+use Rattle.trail_state.specs.Trail.{step, IsTrail}
+use Rattle.trail_state.specs.Clauses.{IsReason, IsUnit}
+use Rattle.trail_state.proofs.Changes.{step_old, step_new, old_or_new}
+use Rattle.trail_state.proofs.Levels.{decided}
+use Rattle.rooted_trails.specs.Rooted.{RootedBy, Rooted}
+use Rattle.rooted_trails.specs.Marks.{Implies, RootFollows}
+use Rattle.rooted_trails.proofs.Falses.{place_in_front, false_by_neg, resolved}
+
+-- a live clause is implied
+pub live_implied : (s : List (Option Stored)) (id : ℕ) → IsSome (slot s id) → Implies (StoreTrue s) (slot_lits (slot s id))
+live_implied s id live f h = h id live
+
+-- above the root a step has its reason
+pub rooted_above : (s : List (Option Stored)) (t : List Step) (i : ℕ) → Rooted s t → i < length t → 0 < (step t i).level → RootedBy s t i (step t i).reason
+rooted_above s t i rooted in' pos = elim (rooted i in') [ inl r ↦ r | inr u ↦ absurd (let z = u.0 in omega arith) ]
+
+-- a literal follows from its reason and the literals before it
+pub follows_by_reason : (F : Assignment → Type 0) (t : List Step) (j : ℕ) (c : List ℕ) → Implies F c → IsReason c t j → (f : Assignment) → F f
+    → ((i : ℕ) → i < j → lit_true f (step t i).lit ≡ true) → lit_true f (step t j).lit ≡ true
+follows_by_reason F t j c imp r f h before =
+    resolved f c (step t j).lit (imp f h) (λ l m n. let p = place_in_front j t (neg l) (r.others l m n) in false_by_neg f l (rw (← p.3) (before p.0 p.1)))
+
+root_by : (s : List (Option Stored)) (t : List Step) (j : ℕ) (r : Reason) → r ≢ Decision → RootedBy s t j r → (f : Assignment) → StoreTrue s f
+    → ((i : ℕ) → i < j → lit_true f (step t i).lit ≡ true) → lit_true f (step t j).lit ≡ true
+root_by s t j Decision n h f sat before = absurd (n refl)
+root_by s t j (Clause id) n h f sat before = follows_by_reason (StoreTrue s) t j (slot_lits (slot s id)) (live_implied s id h.0) h.1 f sat before
+root_by s t j Theory n h f sat before = absurd h
+
+-- the literals of the root of a rooted trail follow from the store
+pub root_follows : (s : List (Option Stored)) (t : List Step) (top : ℕ) → Rooted s t → IsTrail t top → RootFollows (StoreTrue s) t
+root_follows s t top rooted shape j in' z f sat before =
+    elim (rooted j in') [
+      | inl r ↦ root_by s t j (step t j).reason (λ e. let d = decided 0 t top shape.levels j in' e in absurd (omega arith)) r f sat before
+      | inr u ↦ resolved f (slot_lits (slot s u.1.0)) (step t j).lit (sat u.1.0 u.1.1) (λ l m n.
+          absurd (n (sym (only (step t j).lit l (rw u.1.2 at m)))))
+    ] where
+      only : (p l : ℕ) → has (p ∷ []) l ≡ true → p ≡ l
+      only p l h = eqb-true p l (rw or-false at h)
+
+-- a reason stays one on a longer trail
+reason_kept : (s : List (Option Stored)) (t : List Step) (x : Step) (i : ℕ) (r : Reason) → i < length t → RootedBy s t i r → RootedBy s (t ++ x ∷ []) i r
+reason_kept s t x i Decision in' h = tt
+reason_kept s t x i (Clause id) in' h = (
+  h.0,
+  record {
+    holds = rw (step_old t x i in') h.1.holds;
+    others = λ l m n. rw (take-append-le i t (x ∷ []) (omega arith)) (h.1.others l m (rw (step_old t x i in') at n));
+  },
+)
+reason_kept s t x i Theory in' h = absurd h
+
+-- one step more
+pub rooted_push : (s : List (Option Stored)) (t : List Step) (x : Step) → Rooted s t → RootedBy s (t ++ x ∷ []) (length t) x.reason → Rooted s (t ++ x ∷ [])
+rooted_push s t x rooted here i in' =
+    elim (old_or_new t x i in') [
+      | inl old ↦
+          elim (rooted i old) [
+            | inl r ↦ inl (rw (step_old t x i old) (reason_kept s t x i (step t i).reason old r))
+            | inr u ↦ inr (rw (step_old t x i old) u)
+          ]
+      | inr e ↦ inl (rw (e, step_new t x) here)
+    ]
+
+-- a unit clause is a reason for its literal
+pub unit_reason : (s : List (Option Stored)) (t : List Step) (x : Step) (id : ℕ) → IsSome (slot s id) → IsUnit t (slot_lits (slot s id)) x.lit → RootedBy s (t ++ x ∷ []) (length t) (Clause id)
+unit_reason s t x id live u = (
+  live,
+  record {
+    holds = rw (step_new t x) u.holds;
+    others = λ l m n. rw (take_at t (x ∷ []) (length t) refl) (u.others l m (rw (step_new t x) at n));
+  },
+)
+
+-- the empty trail is rooted
+pub rooted_empty : (s : List (Option Stored)) → Rooted s []
+rooted_empty s i in' = absurd (omega arith)
+
+-- a clause more in the store
+pub live_filled : (old new : List (Option Stored)) (id : ℕ) (c : Stored) → Fills old new id c → (k : ℕ) → IsSome (slot old k) → slot new k ≡ slot old k
+live_filled old new id c fills k live =
+    fills.others k (λ e. false≢true (subst (λ x. IsSome x) (ap (slot old) e ∙ fills.free) live))
+
+reason_filled : (old new : List (Option Stored)) (id : ℕ) (c : Stored) → Fills old new id c → (t : List Step) (i : ℕ) (r : Reason) → RootedBy old t i r → RootedBy new t i r
+reason_filled old new id c fills t i Decision h = tt
+reason_filled old new id c fills t i (Clause k) h = rw (live_filled old new id c fills k h.0) h
+reason_filled old new id c fills t i Theory h = absurd h
+
+pub rooted_filled : (old new : List (Option Stored)) (id : ℕ) (c : Stored) → Fills old new id c → (t : List Step) → Rooted old t → Rooted new t
+rooted_filled old new id c fills t rooted i in' =
+    elim (rooted i in') [
+      | inl r ↦ inl (reason_filled old new id c fills t i (step t i).reason r)
+      | inr u ↦ inr (u.0, (u.1.0, rw (live_filled old new id c fills u.1.0 u.1.1) u.1.1, rw (live_filled old new id c fills u.1.0 u.1.1) u.1.2))
+    ]
