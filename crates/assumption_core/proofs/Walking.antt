@@ -1,0 +1,102 @@
+-- What stays blocked along the walk, and what its end says.
+use Rattle.std.proofs.Common.{◌≡◌, ◌≢◌, ℕ, zero, suc, ◌+◌, ◌<◌, ◌≤◌, Bool, true, false, eqb, List, [], ◌∷◌, length, get_or, take, ◌⊎◌, inl, inr, refl, sym, ap, ◌∙◌, subst, arith, add-one, Option, Some, None}
+use Rattle.std.specs.Prelude.{IsSome, IfOk, Result, Ok, Err}
+use Rattle.std.proofs.lemmas.Bool.{false≢true, or_cases, or_left, eqb-true, eq-eqb, cases_lt, and_parts}
+use Rattle.std.proofs.lemmas.List.{take_all, get_or_past}
+use Rattle.std.proofs.Math.Bool.{or-false}
+use Rattle.sat_terms.specs.Literal.{has, neg}
+use Rattle.sat_terms.specs.Truth.{Assignment, lit_true, lits_true, clause_true}
+use Rattle.sat_terms.specs.Answer.{IsCore}
+use Rattle.sat_terms.proofs.Truths.{clause_true-from}
+use Rattle.clause_store.specs.Stored.{Stored, StoreTrue, slot, slot_lits}
+use Rattle.trail_state.specs.declared.trail.Step.{Step}
+use Rattle.trail_state.specs.declared.reason.Reason.TheVariants.{Decision, Clause, Theory}
+use Rattle.trail_state.specs.Trail.{step, true_on, IsTrail}
+use Rattle.trail_state.specs.Clauses.{FalseOn}
+use Rattle.rooted_trails.specs.Rooted.{RootedBy, Rooted}
+use Rattle.rooted_trails.specs.Marks.{flag, RootFollows, BlockedCore, Grows}
+use Rattle.rooted_trails.proofs.Reasons.{root_follows, rooted_above}
+use Rattle.rooted_trails.proofs.Blocking.{root_fewer, core_start, core_step, core_end}
+use Rattle.assumption_core.specs.declared.cores.CoreStart.{CoreStart}
+use Rattle.assumption_core.specs.declared.cores.CoreStart.TheVariants.{Falsified, Conflict}
+use Rattle.assumption_core.specs.Core.{Both, Starts, DecidesAssumed, asks, falsified_by}
+use Rattle.assumption_core.specs.Needs.{IsMarked, IsDecided, IsNeeded, HoldsNeeded}
+use Rattle.assumption_core.proofs.Marking.{CoversLit, CoversAll}
+
+module _ (s : List (Option Stored)) (t : List Step) (top : ℕ) (rooted : Rooted s t) (shape : IsTrail t top) (test : Assignment → Bool) where
+  root : RootFollows (Both s test) t
+  root = root_fewer (StoreTrue s) (Both s test) t (λ f h. h.0) (root_follows s t top rooted shape)
+
+  on_front : (l : ℕ) → true_on t l ≡ true → true_on (take (length t) t) l ≡ true
+  on_front l h = rw (take_all (length t) t (omega arith)) h
+
+  -- a marked place whose reason is a clause
+  pub core_resolved : (id i : ℕ) (c : List ℕ) (seen seen' : List Bool) → IsMarked t seen → i < length t → flag seen i ≡ true → Clause id ≡ (step t i).reason → c ≡ slot_lits (slot s id)
+      → Grows seen seen' → CoversAll t seen' c → BlockedCore (Both s test) t seen (i + 1) → BlockedCore (Both s test) t seen' i
+  core_resolved id i c seen seen' m in' on reason is grows covers b =
+      let r : RootedBy s t i (Clause id) = subst (RootedBy s t i) (sym reason) (rooted_above s t i rooted in' (m.above i on)) in
+      let covers' : CoversAll t seen' (slot_lits (slot s id)) = rw is at covers in
+      core_step (Both s test) t top root shape (slot_lits (slot s id)) seen seen' i (λ f h. h.0 id r.0) (rw add-one at b) grows (λ l k n. covers' l i k (r.1.others l k n))
+
+  -- a clause that is false
+  pub core_of_clause : (id : ℕ) (c : List ℕ) (seen : List Bool) → IsSome (slot s id) → FalseOn t (slot_lits (slot s id)) → c ≡ slot_lits (slot s id) → CoversAll t seen c
+      → BlockedCore (Both s test) t seen (length t)
+  core_of_clause id c seen live off is covers =
+      let covers' : CoversAll t seen (slot_lits (slot s id)) = rw is at covers in
+      core_start (Both s test) t top root shape (slot_lits (slot s id)) seen (length t) (λ f h. h.0 id live) (λ l k. covers' l (length t) k (on_front (neg l) (off l k)))
+
+-- an assumption that is false
+pub core_of_lit : (s : List (Option Stored)) (t : List Step) (top : ℕ) → Rooted s t → IsTrail t top → (lit : ℕ) (seen : List Bool) → true_on t (neg lit) ≡ true → CoversLit t seen lit
+    → BlockedCore (Both s (asks (Some lit))) t seen (length t)
+core_of_lit s t top rooted shape lit seen off covers =
+    core_start (Both s (asks (Some lit))) t top (root s t top rooted shape (asks (Some lit))) shape (lit ∷ []) seen (length t)
+    (λ f h. clause_true-from f (lit ∷ []) lit (or_left (eqb lit lit) false (eq-eqb lit lit refl)) h.1)
+    (λ l k.
+      let e : lit ≡ l = eqb-true lit l (rw or-false at k) in
+      subst (CoversLit t seen) e covers (length t) (rw (← e) (on_front s t top rooted shape (asks (Some lit)) (neg lit) off)))
+
+-- a member of true literals is true
+true_member : (f : Assignment) (ls : List ℕ) (l : ℕ) → lits_true f ls ≡ true → has ls l ≡ true → lit_true f l ≡ true
+true_member f [] l all h = absurd (false≢true h)
+true_member f (x ∷ ls) l all h =
+    let p = and_parts (lit_true f x) (lits_true f ls) all in
+    elim (or_cases (eqb x l) (has ls l) h) [
+      | inl e ↦ subst (λ y. lit_true f y ≡ true) (eqb-true x l e) p.0
+      | inr h' ↦ true_member f ls l p.1 h'
+    ]
+
+-- what is marked stands on the trail
+marked_within : (seen : List Bool) (j : ℕ) → flag seen j ≡ true → j < length seen
+marked_within seen j h =
+    elim (cases_lt j (length seen)) [
+      | inl lt ↦ lt
+      | inr ge ↦ absurd (false≢true (sym (get_or_past seen j false (omega arith)) ∙ h))
+    ]
+
+pub falsified_assumed : (s : List (Option Stored)) (t : List Step) (assumptions : List ℕ) (start : CoreStart) → Starts s t assumptions start → (l : ℕ) → falsified_by start ≡ Some l → has assumptions l ≡ true
+falsified_assumed s t assumptions (Falsified lit) h l is = let e : lit ≡ l = cc in rw (← e) h.0
+falsified_assumed s t assumptions (Conflict id) h l is = absurd (let e : None ≡ Some l = is in cc)
+
+-- the end: what is needed is a core
+module _ (s : List (Option Stored)) (t : List Step) (falsified : Option ℕ) (seen : List Bool) (assumptions core : List ℕ) (m : IsMarked t seen) (held : HoldsNeeded (IsNeeded t falsified seen) assumptions core) where
+  asked : (x : Option ℕ) → falsified ≡ x → ((l : ℕ) → x ≡ Some l → has assumptions l ≡ true) → (f : Assignment) → lits_true f core ≡ true → asks x f ≡ true
+  asked None e known f all = refl
+  asked (Some l) e known f all = true_member f core l all (held.all l (known l refl) (inl e))
+
+  pub core_is : BlockedCore (Both s (asks falsified)) t seen 0 → DecidesAssumed t assumptions → ((l : ℕ) → falsified ≡ Some l → has assumptions l ≡ true) → IsCore (StoreTrue s) assumptions core
+  core_is blocked decides known = record {
+    some = held.some;
+    once = held.once;
+    none = λ f sat all.
+      core_end (Both s (asks falsified)) t seen blocked f (sat, asked falsified refl known f all) (λ j on dec.
+        let in' : j < length t = rw (← m.long) (marked_within seen j on) in
+        true_member f core (step t j).lit all (held.all (step t j).lit (decides j in' dec) (inr (j, in', on, dec, refl))));
+  }
+
+-- what the calls of a core give
+pub core_found : {E : Type 0} (s : List (Option Stored)) (t : List Step) (assumptions : List ℕ) (start : CoreStart) (falsified : Option ℕ) (seen : List Bool) (r : Result (List ℕ) E)
+    → IsMarked t seen → falsified ≡ falsified_by start → BlockedCore (Both s (asks (falsified_by start))) t seen 0 → DecidesAssumed t assumptions → Starts s t assumptions start
+    → IfOk r (λ core. HoldsNeeded (IsNeeded t falsified seen) assumptions core) → IfOk r (λ core. IsCore (StoreTrue s) assumptions core)
+core_found s t assumptions start falsified seen (Ok core) m is blocked decides starts held =
+    core_is s t falsified seen assumptions core m held (rw is blocked) decides (λ l e. falsified_assumed s t assumptions start starts l (sym is ∙ e))
+core_found s t assumptions start falsified seen (Err e) m is blocked decides starts held = tt

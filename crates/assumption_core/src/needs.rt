@@ -1,0 +1,193 @@
+//! What a core needs.
+ghost use Rattle.std.specs.Prelude.{◌≡◌, ◌<◌, ◌+◌, ℕ, Bool, Some, None, true, false, take, length, IfOk};
+ghost use Rattle.sat_terms.specs.Literal.{has, neg};
+ghost use Rattle.sat_terms.specs.Truth.{Assignment};
+ghost use Rattle.trail_state.specs.Trail.{step, true_on};
+ghost use Rattle.rooted_trails.specs.Rooted.{Rooted};
+ghost use Rattle.rooted_trails.specs.Marks.{flag, AboveRoot, BlockedCore, Covered, Grows};
+ghost use Rattle.assumption_core.specs.Core.{Both, Starts, asks, falsified_by};
+ghost use Rattle.assumption_core.specs.Needs.{IsMarked, IsDecided, IsNeeded, Takes, HoldsNeeded};
+
+use crate::cores::CoreStart;
+use crate::places::{decided_at, place_above_root, reason_at};
+use clause_store::store::Store;
+use sat_model::lists::Lits;
+use sat_model::literal::Lit;
+use sat_model::memory::Memory;
+use std::alloc::Global;
+use trail_state::reason::Reason;
+use trail_state::trail::Trail;
+
+// What a core needs: the falsified assumption, if there is one, and the decisions at the marked places of the trail. Before
+// the walk back over the trail reaches a marked place of an implied literal, its mark stands for what implied it.
+#[derive(Drop)]
+pub(crate) struct Needs {
+    falsified: Option<Lit>,
+    places: Vec<bool>,
+}
+
+impl Needs {
+    // Nothing is needed, over so many places.
+    pub(crate) fn new(alloc: Global, len: usize) -> Result<Needs, Memory>
+        ensures long { IfOk result (λ n. length n.places.items ≡ len) }
+        ensures none { IfOk result (λ n. (j : ℕ) → flag n.places.items j ≡ false) }
+        ensures no_literal { IfOk result (λ n. n.falsified ≡ None) }
+    {
+        Ok(Needs {
+            falsified: None,
+            places: vec![in alloc; false; len]?,
+        })
+    }
+
+    // Marks the place of a literal's variable, if it has one above the root.
+    fn mark(&mut self, trail: &Trail, lit: Lit)
+        requires marked { IsMarked trail.now.steps self.old.places.items }
+        ensures falsified { self.new.falsified ≡ self.old.falsified }
+        ensures marked { IsMarked trail.now.steps self.new.places.items }
+        ensures grows { Grows self.old.places.items self.new.places.items }
+        ensures covered { (below : ℕ) → true_on (take below trail.now.steps) (neg lit) ≡ true → Covered trail.now.steps self.new.places.items below lit }
+    {
+        trail.has_shape();
+        match place_above_root(trail, lit.var()) {
+            Some(place) => {
+                self.places[place] = true;
+            }
+            None => {}
+        }
+    }
+
+    // Marks the places of a clause's variables that have one above the root.
+    fn mark_all(&mut self, trail: &Trail, clause: &[Lit])
+        requires marked { IsMarked trail.now.steps self.old.places.items }
+        ensures falsified { self.new.falsified ≡ self.old.falsified }
+        ensures marked { IsMarked trail.now.steps self.new.places.items }
+        ensures grows { Grows self.old.places.items self.new.places.items }
+        ensures covered { (l below : ℕ) → has clause.now l ≡ true → true_on (take below trail.now.steps) (neg l) ≡ true → Covered trail.now.steps self.new.places.items below l }
+    {
+        for lit in clause {
+            self.mark(trail, *lit);
+        }
+    }
+
+    // Needs what starts the core: the falsified assumption and what made it false, or what made the clause false.
+    pub(crate) fn start(&mut self, store: &Store, trail: &Trail, assumptions: &[Lit], start: CoreStart)
+        requires rooted { Rooted store.now trail.now.steps }
+        requires marked { IsMarked trail.now.steps self.old.places.items }
+        requires no_literal { self.old.falsified ≡ None }
+        requires start { Starts store.now trail.now.steps assumptions.now start }
+        ensures falsified { self.new.falsified ≡ falsified_by start }
+        ensures marked { IsMarked trail.now.steps self.new.places.items }
+        ensures blocked { BlockedCore (Both store.now (asks (falsified_by start))) trail.now.steps self.new.places.items (length trail.now.steps) }
+    {
+        trail.has_shape();
+        match start {
+            CoreStart::Falsified(lit) => {
+                self.falsified = Some(lit);
+                self.mark(trail, lit);
+            }
+            CoreStart::Conflict(id) => self.mark_all(trail, store.get(id)),
+        }
+    }
+
+    // Marks what implied the literal at a place, if that is marked and no decision.
+    fn resolve(&mut self, store: &Store, trail: &Trail, place: usize)
+        requires within { place < length trail.now.steps }
+        requires rooted { Rooted store.now trail.now.steps }
+        requires marked { IsMarked trail.now.steps self.old.places.items }
+        ensures falsified { self.new.falsified ≡ self.old.falsified }
+        ensures marked { IsMarked trail.now.steps self.new.places.items }
+        ensures blocked {
+            (test : Assignment → Bool) → BlockedCore (Both store.now test) trail.now.steps self.old.places.items (place + 1)
+            → BlockedCore (Both store.now test) trail.now.steps self.new.places.items place
+        }
+    {
+        trail.has_shape();
+        if !self.places[place] {
+            return;
+        }
+        match reason_at(trail, place) {
+            Reason::Decision => {}
+            Reason::Clause(id) => self.mark_all(trail, store.get(id)),
+            Reason::Theory => unreachable!(),
+        }
+    }
+
+    // Walks back over the trail, until the marked decisions are what the conflict comes from.
+    pub(crate) fn trace_back(&mut self, store: &Store, trail: &Trail)
+        requires rooted { Rooted store.now trail.now.steps }
+        requires marked { IsMarked trail.now.steps self.old.places.items }
+        ensures falsified { self.new.falsified ≡ self.old.falsified }
+        ensures marked { IsMarked trail.now.steps self.new.places.items }
+        ensures blocked {
+            (test : Assignment → Bool) → BlockedCore (Both store.now test) trail.now.steps self.old.places.items (length trail.now.steps)
+            → BlockedCore (Both store.now test) trail.now.steps self.new.places.items 0
+        }
+    {
+        let mut place = trail.lits().len();
+        'walk: while place > 0 {
+            place -= 1;
+            self.resolve(store, trail, place);
+        }
+    }
+
+    // Whether a literal is the falsified one; it is so no more.
+    fn take_falsified(&mut self, lit: Lit) -> bool
+        ensures places { self.new.places.items ≡ self.old.places.items }
+        ensures takes { Takes (λ l. self.old.falsified ≡ Some l) (λ l. self.new.falsified ≡ Some l) lit result }
+    {
+        match self.falsified {
+            Some(other) => {
+                if other != lit {
+                    return false;
+                }
+            }
+            None => return false,
+        }
+        self.falsified = None;
+        true
+    }
+
+    // Whether a literal is a marked decision; it is so no more.
+    fn take_decided(&mut self, trail: &Trail, lit: Lit) -> bool
+        requires marked { IsMarked trail.now.steps self.old.places.items }
+        ensures falsified { self.new.falsified ≡ self.old.falsified }
+        ensures marked { IsMarked trail.now.steps self.new.places.items }
+        ensures takes { Takes (IsDecided trail.now.steps self.old.places.items) (IsDecided trail.now.steps self.new.places.items) lit result }
+    {
+        trail.has_shape();
+        let place = match decided_at(trail, lit) {
+            Some(place) => place,
+            None => return false,
+        };
+        if !self.places[place] {
+            return false;
+        }
+        self.places[place] = false;
+        true
+    }
+
+    // Whether a literal is needed; it is so no more.
+    fn take(&mut self, trail: &Trail, lit: Lit) -> bool
+        requires marked { IsMarked trail.now.steps self.old.places.items }
+        ensures marked { IsMarked trail.now.steps self.new.places.items }
+        ensures takes { Takes (IsNeeded trail.now.steps self.old.falsified self.old.places.items) (IsNeeded trail.now.steps self.new.falsified self.new.places.items) lit result }
+    {
+        let falsified = self.take_falsified(lit);
+        let decided = self.take_decided(trail, lit);
+        falsified || decided
+    }
+
+    // The needed assumptions, each once, in their order.
+    pub(crate) fn collect(&mut self, alloc: Global, trail: &Trail, assumptions: &[Lit]) -> Result<Lits, Memory>
+        requires marked { IsMarked trail.now.steps self.old.places.items }
+        ensures { IfOk result (λ core. HoldsNeeded (IsNeeded trail.now.steps self.old.falsified self.old.places.items) assumptions.now core) }
+    {
+        let mut core = Lits::new(alloc);
+        for lit in assumptions {
+            if self.take(trail, *lit) {
+                core.push(*lit)?;
+            }
+        }
+        Ok(core)
+    }
+}

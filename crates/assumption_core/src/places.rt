@@ -1,0 +1,58 @@
+//! What the trail says of a place.
+ghost use Rattle.std.specs.Prelude.{◌≡◌, ◌≢◌, ◌<◌, ℕ, length, IfSome, IfNone};
+ghost use Rattle.sat_terms.specs.Literal.{var_of};
+ghost use Rattle.trail_state.specs.Trail.{step};
+ghost use Rattle.trail_state.specs.declared.reason.Reason.TheVariants.{Decision};
+
+use sat_model::literal::{Lit, Var};
+use trail_state::reason::Reason;
+use trail_state::trail::Trail;
+
+// The place of a variable, if it has one above the root.
+pub(crate) fn place_above_root(trail: &Trail, var: Var) -> Option<usize>
+    ensures within { IfSome result (λ k. k < length trail.now.steps) }
+    ensures same { IfSome result (λ k. var_of (step trail.now.steps k).lit ≡ var) }
+    ensures above { IfSome result (λ k. 0 < (step trail.now.steps k).level) }
+    ensures none { IfNone result ((j : ℕ) → j < length trail.now.steps → var_of (step trail.now.steps j).lit ≡ var → (step trail.now.steps j).level ≡ 0) }
+{
+    trail.has_shape();
+    let place = trail.place_of(var)?;
+    let level = trail.level_of(var)?;
+    if level == 0 {
+        None
+    } else {
+        Some(place as usize)
+    }
+}
+
+// Why the literal at a place stands there.
+pub(crate) fn reason_at(trail: &Trail, place: usize) -> Reason
+    requires { place < length trail.now.steps }
+    ensures { result ≡ (step trail.now.steps place).reason }
+{
+    trail.has_shape();
+    let lit = trail.lits()[place];
+    match trail.reason_of(lit.var()) {
+        Some(reason) => reason,
+        None => unreachable!(),
+    }
+}
+
+// The place where a literal was decided, if it was.
+pub(crate) fn decided_at(trail: &Trail, lit: Lit) -> Option<usize>
+    ensures within { IfSome result (λ k. k < length trail.now.steps) }
+    ensures same { IfSome result (λ k. (step trail.now.steps k).lit ≡ lit) }
+    ensures decided { IfSome result (λ k. (step trail.now.steps k).reason ≡ Decision) }
+    ensures none { IfNone result ((j : ℕ) → j < length trail.now.steps → (step trail.now.steps j).reason ≡ Decision → (step trail.now.steps j).lit ≢ lit) }
+{
+    trail.has_shape();
+    let place = trail.place_of(lit.var())? as usize;
+    if trail.lits()[place] != lit {
+        return None;
+    }
+    match reason_at(trail, place) {
+        Reason::Decision => Some(place),
+        Reason::Clause(_id) => None,
+        Reason::Theory => None,
+    }
+}
