@@ -1,15 +1,14 @@
 -- A decision, and two literals that clauses of two literals imply one after the other.
-use Rattle.std.proofs.Common.{◌≡◌, ◌≢◌, ℕ, zero, suc, ◌+◌, ◌<◌, ◌≤◌, Bool, true, false, eqb, List, [], ◌∷◌, ◌++◌, length, ◌⊎◌, inl, inr, refl, sym, ap, ◌∙◌, subst, arith, Option, Some, None}
+use Rattle.std.proofs.Common.{◌≡◌, ℕ, zero, suc, true, false, eqb, List, [], ◌∷◌, ◌++◌, ◌⊎◌, inl, inr, refl, sym, subst, arith, Option, None}
 use Rattle.std.specs.Prelude.{IsSome}
-use Rattle.std.proofs.lemmas.Bool.{false≢true, or_cases, or_left, or_right, eqb-true, eq-eqb}
+use Rattle.std.proofs.lemmas.Bool.{or_cases, or_left, or_right, eqb-true, eq-eqb}
 use Rattle.std.proofs.Math.Bool.{or-false}
 use Rattle.sat_terms.specs.Literal.{has, neg}
 use Rattle.sat_terms.proofs.Literals.{neg-neg}
 use Rattle.clause_store.specs.Stored.{Stored, slot, slot_lits}
 use Rattle.trail_state.specs.declared.trail.Step.{Step}
-use Rattle.trail_state.specs.declared.reason.Reason.{Reason}
 use Rattle.trail_state.specs.declared.reason.Reason.TheVariants.{Decision, Clause}
-use Rattle.trail_state.specs.Trail.{step, true_on, value_on}
+use Rattle.trail_state.specs.Trail.{true_on, value_on}
 use Rattle.trail_state.specs.Clauses.{IsUnit}
 use Rattle.rooted_trails.specs.Rooted.{Rooted}
 use Rattle.rooted_trails.proofs.Reasons.{rooted_empty, rooted_push, unit_reason}
@@ -56,11 +55,11 @@ module _ (s : List (Option Stored)) (one two first middle last : ℕ) (lev lev' 
       let r' : Rooted s t' = rw e' (rooted_push s t b r (unit_reason s t b one live u)) in
       let on' : true_on t' (neg (neg middle)) ≡ true = rw (e', e, neg-neg middle) (or_right (eqb first middle) (true_on (b ∷ []) middle) (or_left (eqb middle middle) false (eq-eqb middle middle refl))) in
       let u' : IsUnit t' (slot_lits (slot s two)) last =
-          rw lits' (unit_of t' (neg middle ∷ last ∷ []) last (neg middle) (λ q h. swap (two_has (neg middle) last q h)) (second_in (neg middle) last) free' on') in
+      rw lits' (unit_of t' (neg middle ∷ last ∷ []) last (neg middle) (λ q h. swap (two_has (neg middle) last q h)) (second_in (neg middle) last) free' on') in
       rw e'' (rooted_push s t' d r' (unit_reason s t' d two live' u')) where
-    swap : {A B : Type 0} → A ⊎ B → B ⊎ A
-    swap (inl x) = inr x
-    swap (inr y) = inl y
+        swap : {A B : Type 0} → A ⊎ B → B ⊎ A
+        swap (inl x) = inr x
+        swap (inr y) = inl y
 
   steps_are : (t t' t'' : List Step) → t ≡ [] ++ a ∷ [] → t' ≡ t ++ b ∷ [] → t'' ≡ t' ++ d ∷ [] → t'' ≡ a ∷ b ∷ d ∷ []
   steps_are t t' t'' e e' e'' = rw (e'', e', e) refl
@@ -75,6 +74,8 @@ module _ (s : List (Option Stored)) (one two first middle last : ℕ) (lev lev' 
 
   pub chain_falsifies : (t t' t'' : List Step) → t ≡ [] ++ a ∷ [] → t' ≡ t ++ b ∷ [] → t'' ≡ t' ++ d ∷ []
       → (has (first ∷ neg last ∷ []) (neg last) ≡ true) × (true_on t'' (neg (neg last)) ≡ true)
-  chain_falsifies t t' t'' e e' e'' =
-      (second_in first (neg last), rw (steps_are t t' t'' e e' e'', neg-neg last)
-        (or_right (eqb first last) (true_on (b ∷ d ∷ []) last) (or_right (eqb middle last) (true_on (d ∷ []) last) (or_left (eqb last last) false (eq-eqb last last refl)))))
+  chain_falsifies t t' t'' e e' e'' = (
+    second_in first (neg last),
+    rw (steps_are t t' t'' e e' e'', neg-neg last)
+        (or_right (eqb first last) (true_on (b ∷ d ∷ []) last) (or_right (eqb middle last) (true_on (d ∷ []) last) (or_left (eqb last last) false (eq-eqb last last refl)))),
+  )

@@ -1,16 +1,16 @@
 -- What stays blocked along the walk, and what its end says.
-use Rattle.std.proofs.Common.{◌≡◌, ◌≢◌, ℕ, zero, suc, ◌+◌, ◌<◌, ◌≤◌, Bool, true, false, eqb, List, [], ◌∷◌, length, get_or, take, ◌⊎◌, inl, inr, refl, sym, ap, ◌∙◌, subst, arith, add-one, Option, Some, None}
+use Rattle.std.proofs.Common.{◌≡◌, ℕ, ◌+◌, ◌<◌, Bool, true, false, eqb, List, [], ◌∷◌, length, take, inl, inr, refl, sym, ◌∙◌, subst, arith, add-one, Option, Some, None}
 use Rattle.std.specs.Prelude.{IsSome, IfOk, Result, Ok, Err}
 use Rattle.std.proofs.lemmas.Bool.{false≢true, or_cases, or_left, eqb-true, eq-eqb, cases_lt, and_parts}
 use Rattle.std.proofs.lemmas.List.{take_all, get_or_past}
 use Rattle.std.proofs.Math.Bool.{or-false}
 use Rattle.sat_terms.specs.Literal.{has, neg}
-use Rattle.sat_terms.specs.Truth.{Assignment, lit_true, lits_true, clause_true}
+use Rattle.sat_terms.specs.Truth.{Assignment, lit_true, lits_true}
 use Rattle.sat_terms.specs.Answer.{IsCore}
 use Rattle.sat_terms.proofs.Truths.{clause_true-from}
 use Rattle.clause_store.specs.Stored.{Stored, StoreTrue, slot, slot_lits}
 use Rattle.trail_state.specs.declared.trail.Step.{Step}
-use Rattle.trail_state.specs.declared.reason.Reason.TheVariants.{Decision, Clause, Theory}
+use Rattle.trail_state.specs.declared.reason.Reason.TheVariants.{Clause}
 use Rattle.trail_state.specs.Trail.{step, true_on, IsTrail}
 use Rattle.trail_state.specs.Clauses.{FalseOn}
 use Rattle.rooted_trails.specs.Rooted.{RootedBy, Rooted}
@@ -20,7 +20,7 @@ use Rattle.rooted_trails.proofs.Blocking.{root_fewer, core_start, core_step, cor
 use Rattle.assumption_core.specs.declared.cores.CoreStart.{CoreStart}
 use Rattle.assumption_core.specs.declared.cores.CoreStart.TheVariants.{Falsified, Conflict}
 use Rattle.assumption_core.specs.Core.{Both, Starts, DecidesAssumed, asks, falsified_by}
-use Rattle.assumption_core.specs.Needs.{IsMarked, IsDecided, IsNeeded, HoldsNeeded}
+use Rattle.assumption_core.specs.Needs.{IsMarked, IsNeeded, HoldsNeeded}
 use Rattle.assumption_core.proofs.Marking.{CoversLit, CoversAll}
 
 module _ (s : List (Option Stored)) (t : List Step) (top : ℕ) (rooted : Rooted s t) (shape : IsTrail t top) (test : Assignment → Bool) where
@@ -52,8 +52,8 @@ core_of_lit s t top rooted shape lit seen off covers =
     core_start (Both s (asks (Some lit))) t top (root s t top rooted shape (asks (Some lit))) shape (lit ∷ []) seen (length t)
     (λ f h. clause_true-from f (lit ∷ []) lit (or_left (eqb lit lit) false (eq-eqb lit lit refl)) h.1)
     (λ l k.
-      let e : lit ≡ l = eqb-true lit l (rw or-false at k) in
-      subst (CoversLit t seen) e covers (length t) (rw (← e) (on_front s t top rooted shape (asks (Some lit)) (neg lit) off)))
+    let e : lit ≡ l = eqb-true lit l (rw or-false at k) in
+    subst (CoversLit t seen) e covers (length t) (rw (← e) (on_front s t top rooted shape (asks (Some lit)) (neg lit) off)))
 
 -- a member of true literals is true
 true_member : (f : Assignment) (ls : List ℕ) (l : ℕ) → lits_true f ls ≡ true → has ls l ≡ true → lit_true f l ≡ true
@@ -88,7 +88,7 @@ module _ (s : List (Option Stored)) (t : List Step) (falsified : Option ℕ) (se
     some = held.some;
     once = held.once;
     none = λ f sat all.
-      core_end (Both s (asks falsified)) t seen blocked f (sat, asked falsified refl known f all) (λ j on dec.
+        core_end (Both s (asks falsified)) t seen blocked f (sat, asked falsified refl known f all) (λ j on dec.
         let in' : j < length t = rw (← m.long) (marked_within seen j on) in
         true_member f core (step t j).lit all (held.all (step t j).lit (decides j in' dec) (inr (j, in', on, dec, refl))));
   }

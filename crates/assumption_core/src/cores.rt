@@ -27,7 +27,13 @@ pub enum CoreStart {
 /// assumption, and the assumption or the live clause of `start` must be false on the trail. It walks back over the trail, from
 /// what is false to the decisions that imply it (the final analysis of MiniSat), in time linear in the trail, the
 /// assumptions and the clauses that it meets. It answers `Memory` only where it got none.
-pub fn core_of(alloc: Global, store: &Store, trail: &Trail, assumptions: &[Lit], start: CoreStart) -> Result<Lits, Memory>
+pub fn core_of(
+    alloc: Global,
+    store: &Store,
+    trail: &Trail,
+    assumptions: &[Lit],
+    start: CoreStart,
+) -> Result<Lits, Memory>
     requires rooted { Rooted store.now trail.now.steps }
     requires decisions { DecidesAssumed trail.now.steps assumptions.now }
     requires start { Starts store.now trail.now.steps assumptions.now start }

@@ -70,7 +70,13 @@ impl Needs {
     }
 
     // Needs what starts the core: the falsified assumption and what made it false, or what made the clause false.
-    pub(crate) fn start(&mut self, store: &Store, trail: &Trail, assumptions: &[Lit], start: CoreStart)
+    pub(crate) fn start(
+        &mut self,
+        store: &Store,
+        trail: &Trail,
+        assumptions: &[Lit],
+        start: CoreStart,
+    )
         requires rooted { Rooted store.now trail.now.steps }
         requires marked { IsMarked trail.now.steps self.old.places.items }
         requires no_literal { self.old.falsified ≡ None }
@@ -96,10 +102,8 @@ impl Needs {
         requires marked { IsMarked trail.now.steps self.old.places.items }
         ensures falsified { self.new.falsified ≡ self.old.falsified }
         ensures marked { IsMarked trail.now.steps self.new.places.items }
-        ensures blocked {
-            (test : Assignment → Bool) → BlockedCore (Both store.now test) trail.now.steps self.old.places.items (place + 1)
-            → BlockedCore (Both store.now test) trail.now.steps self.new.places.items place
-        }
+        ensures blocked { (test : Assignment → Bool) → BlockedCore (Both store.now test) trail.now.steps self.old.places.items (place + 1)
+            → BlockedCore (Both store.now test) trail.now.steps self.new.places.items place }
     {
         trail.has_shape();
         if !self.places[place] {
@@ -118,10 +122,8 @@ impl Needs {
         requires marked { IsMarked trail.now.steps self.old.places.items }
         ensures falsified { self.new.falsified ≡ self.old.falsified }
         ensures marked { IsMarked trail.now.steps self.new.places.items }
-        ensures blocked {
-            (test : Assignment → Bool) → BlockedCore (Both store.now test) trail.now.steps self.old.places.items (length trail.now.steps)
-            → BlockedCore (Both store.now test) trail.now.steps self.new.places.items 0
-        }
+        ensures blocked { (test : Assignment → Bool) → BlockedCore (Both store.now test) trail.now.steps self.old.places.items (length trail.now.steps)
+            → BlockedCore (Both store.now test) trail.now.steps self.new.places.items 0 }
     {
         let mut place = trail.lits().len();
         'walk: while place > 0 {
@@ -178,7 +180,12 @@ impl Needs {
     }
 
     // The needed assumptions, each once, in their order.
-    pub(crate) fn collect(&mut self, alloc: Global, trail: &Trail, assumptions: &[Lit]) -> Result<Lits, Memory>
+    pub(crate) fn collect(
+        &mut self,
+        alloc: Global,
+        trail: &Trail,
+        assumptions: &[Lit],
+    ) -> Result<Lits, Memory>
         requires marked { IsMarked trail.now.steps self.old.places.items }
         ensures { IfOk result (λ core. HoldsNeeded (IsNeeded trail.now.steps self.old.falsified self.old.places.items) assumptions.now core) }
     {

@@ -29,7 +29,11 @@ fn names(store: &Store, id: ClauseId, low: Lit, high: Lit) -> bool
     ensures live { IsTrue result → IsSome (slot store.now id) }
     ensures lits { IsTrue result → slot_lits (slot store.now id) ≡ low ∷ high ∷ [] }
 {
-    store.is_live(id) && store.get(id) == [low, high].as_slice()
+    if !store.is_live(id) {
+        return false;
+    }
+    let lits = store.get(id);
+    lits.len() == 2 && lits[0] == low && lits[1] == high
 }
 
 // Whether the variable of a literal is declared and has no value.
@@ -42,7 +46,14 @@ fn is_open(trail: &Trail, lit: Lit) -> bool
 
 // The core of the assumptions `first` and the opposite of `last`, where `first` is decided and the two clauses imply first
 // `middle` and then `last`. `None` where the store or the trail is not as that asks.
-fn chain_core(alloc: Global, store: &Store, ids: (ClauseId, ClauseId), first: Lit, middle: Lit, last: Lit) -> Result<Option<Lits>, Memory> {
+fn chain_core(
+    alloc: Global,
+    store: &Store,
+    ids: (ClauseId, ClauseId),
+    first: Lit,
+    middle: Lit,
+    last: Lit,
+) -> Result<Option<Lits>, Memory> {
     let (one, two) = ids;
     let mut trail = Trail::new(alloc);
     trail.declare(last.var())?;
@@ -61,7 +72,13 @@ fn chain_core(alloc: Global, store: &Store, ids: (ClauseId, ClauseId), first: Li
         return Ok(None);
     }
     trail.assign(last, Reason::Clause(two));
-    let core = core_of(alloc, store, &trail, &[first, last.neg()], CoreStart::Falsified(last.neg()))?;
+    let core = core_of(
+        alloc,
+        store,
+        &trail,
+        &[first, last.neg()],
+        CoreStart::Falsified(last.neg()),
+    )?;
     Ok(Some(core))
 }
 
@@ -72,7 +89,10 @@ fn falsified_assumption_has_its_core(rt: HostRuntime) -> Result<(), Fail> {
     let two = Lit::new(2).ok_or("no literal")?;
     let three = Lit::new(3).ok_or("no literal")?;
     let mut store = Store::new(alloc);
-    let ids = (add_pair(&mut store, one, two)?, add_pair(&mut store, one.neg(), three)?);
+    let ids = (
+        add_pair(&mut store, one, two)?,
+        add_pair(&mut store, one.neg(), three)?,
+    );
     let core = chain_core(alloc, &store, ids, two.neg(), one, three)?.ok_or("no chain")?;
     assert_eq!(rt; core.as_slice(), [two.neg(), three.neg()].as_slice());
     Ok(())

@@ -9,4 +9,4 @@ returns-in-Clause-clause-blocked c =
     let in' = c.requires.within in
     let on = flag_read c.args.self.now.places.items c.args.place _ _ (omega arith) c.index.ensures c.if-not-index.false in
     λ test. core_resolved c.args.store.now c.args.trail.now.steps _ c.requires.rooted c.has_shape.ensures test c.in-Clause.id c.args.place _ _ _ c.requires.marked in' on
-      c.in-Clause.ensures c.get.ensures.value c.mark_all.ensures.grows c.mark_all.ensures.covered
+    c.in-Clause.ensures c.get.ensures.value c.mark_all.ensures.grows c.mark_all.ensures.covered

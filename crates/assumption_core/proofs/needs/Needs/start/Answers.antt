@@ -12,4 +12,4 @@ pub returns-in-Conflict-clause-blocked : goal.returns-in-Conflict-clause-blocked
 returns-in-Conflict-clause-blocked c =
     let start = rw c.in-Conflict.is at c.requires.start in
     core_of_clause c.args.store.now c.args.trail.now.steps _ c.requires.rooted c.has_shape.ensures (asks (falsified_by c.args.start)) c.in-Conflict.id _ _ start.0 start.1 c.get.ensures.value
-      c.mark_all.ensures.covered
+    c.mark_all.ensures.covered

@@ -1,4 +1,4 @@
-use Rattle.std.proofs.Common.{◌≡◌, ◌-◌, ◌+◌, ◌≤◌, ◌∙◌, arith}
+use Rattle.std.proofs.Common.{◌≡◌, ◌-◌, ◌+◌, ◌∙◌, arith}
 use Rattle.assumption_core.proofs.needs.Needs.trace_back.Goals as goal
 
 pub walk-preserved : goal.walk-preserved
