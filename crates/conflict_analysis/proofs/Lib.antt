@@ -1,0 +1,9 @@
+pub mod Marking
+pub mod Fronts
+pub mod Walks
+pub mod Highests
+pub mod Glues
+pub mod Learns
+pub mod Normals
+pub mod Lessons
+pub mod Examples

@@ -1,0 +1,63 @@
+-- Clauses that are sorted and false are normal.
+use Rattle.std.proofs.Common.{◌≡◌, ◌≢◌, ℕ, suc, zero, ◌+◌, ◌<◌, Bool, true, false, eqb, List, [], ◌∷◌, length, get_or, ◌⊎◌, inl, inr, refl, sym, ap, ◌∙◌, subst, arith}
+use Rattle.std.specs.Prelude.{Contains}
+use Rattle.std.specs.List.{dedup}
+use Rattle.std.specs.List.Sorted.{IsStrictlyIncreasing}
+use Rattle.std.proofs.lemmas.Bool.{false≢true, or_cases, or_left, or_right, eqb-true, eq-eqb}
+use Rattle.std.proofs.lemmas.List.Kept.{AllPairs-from_increasing, Contains-dedup_nat, Contains-from_dedup}
+use Rattle.sat_terms.specs.Literal.{has, neg, var_of}
+use Rattle.sat_terms.specs.Normal.{IsNormal}
+use Rattle.sat_terms.proofs.Literals.{var_of-neg, same_var, neg-other, neg-neg}
+use Rattle.trail_state.specs.declared.trail.Step.{Step}
+use Rattle.trail_state.specs.Trail.{step, IsTrail}
+use Rattle.trail_state.specs.Clauses.{FalseOn}
+use Rattle.trail_state.proofs.Places.{place_of_true}
+
+has_at : (c : List ℕ) (i d : ℕ) → i < length c → has c (get_or c i d) ≡ true
+has_at [] i d in' = absurd (omega arith)
+has_at (y ∷ c) zero d in' = or_left (eqb y y) (has c y) (eq-eqb y y refl)
+has_at (y ∷ c) (suc i) d in' = or_right (eqb y (get_or c i d)) (has c (get_or c i d)) (has_at c i d (omega arith))
+
+-- no literal is false beside its opposite
+not_both : (t : List Step) (top a : ℕ) (c : List ℕ) → IsTrail t top → FalseOn t c → has c a ≡ true → has c (neg a) ≡ true → ⊥
+not_both t top a c shape false' h k =
+    let p = place_of_true t (neg a) (false' a h) in
+    let q = place_of_true t (neg (neg a)) (false' (neg a) k) in
+    let e = shape.apart p.0 q.0 p.1 q.1 (ap var_of p.2 ∙ sym (var_of-neg (neg a)) ∙ ap var_of (sym q.2)) in
+    neg-other (neg a) (sym q.2 ∙ ap (λ j. (step t j).lit) (sym e) ∙ p.2)
+
+pub normal_false : (t : List Step) (top : ℕ) (c : List ℕ) → IsTrail t top → IsStrictlyIncreasing c → FalseOn t c → IsNormal c
+normal_false t top c shape rises false' = record {
+  rising = AllPairs-from_increasing c rises;
+  apart = λ i j d lt in' e.
+    let low = AllPairs-from_increasing c rises i j d lt in' in
+    let a = has_at c i d (omega arith) in
+    let b = has_at c j d in' in
+    elim (same_var (get_or c i d) (get_or c j d) e) [
+      inl s ↦ omega (arith, s, low)
+    | inr s ↦ not_both t top (get_or c j d) c shape false' b (subst (λ x. has c x ≡ true) s a)
+    ];
+}
+
+Contains-from_has : (c : List ℕ) (l : ℕ) → has c l ≡ true → Contains c l
+Contains-from_has [] l h = absurd (false≢true h)
+Contains-from_has (x ∷ c) l h =
+    elim (or_cases (eqb x l) (has c l) h) [
+      inl e ↦ (0, omega arith, eqb-true x l e)
+    | inr h' ↦ let r = Contains-from_has c l h' in let lt = r.1 in (suc r.0, omega arith, r.2)
+    ]
+
+has-from_Contains : (c : List ℕ) (l k : ℕ) → k < length c → get_or c k l ≡ l → has c l ≡ true
+has-from_Contains [] l k lt e = absurd (omega arith)
+has-from_Contains (x ∷ c) l zero lt e = or_left (eqb x l) (has c l) (eq-eqb x l e)
+has-from_Contains (x ∷ c) l (suc k) lt e = or_right (eqb x l) (has c l) (has-from_Contains c l k (omega arith) e)
+
+same_tests : (a b : Bool) → (a ≡ true → b ≡ true) → (b ≡ true → a ≡ true) → a ≡ b
+same_tests true b to from = sym (to refl)
+same_tests false true to from = from refl
+same_tests false false to from = refl
+
+pub has-dedup : (c : List ℕ) (l : ℕ) → has (dedup eqb c) l ≡ has c l
+has-dedup c l = same_tests (has (dedup eqb c) l) (has c l)
+  (λ h. let r = Contains-from_dedup eqb c l (Contains-from_has (dedup eqb c) l h) in has-from_Contains c l r.0 r.1 r.2)
+  (λ h. let r = Contains-dedup_nat c l (Contains-from_has c l h) in has-from_Contains (dedup eqb c) l r.0 r.1 r.2)

@@ -1,0 +1,178 @@
+-- The walk down the trail.
+use Rattle.std.proofs.Common.{◌≡◌, ◌≢◌, ℕ, suc, zero, ◌+◌, ◌-◌, ◌<◌, ◌≤◌, Bool, true, false, cond, ◌&&◌, eqb, List, length, inl, inr, refl, sym, ap, ◌∙◌, subst, arith, Option, Some, None, Result, Ok, Err, OnOk}
+use Rattle.std.specs.Prelude.{IsSome}
+use Rattle.std.proofs.lemmas.Bool.{cases_eq, eqb-true, eq-eqb, and_parts, and_from}
+use Rattle.sat_terms.specs.Literal.{has, neg, var_of}
+use Rattle.sat_terms.specs.Truth.{Assignment}
+use Rattle.clause_store.specs.Stored.{Stored, slot, slot_lits}
+use Rattle.trail_state.specs.declared.trail.Step.{Step}
+use Rattle.trail_state.specs.declared.reason.Reason.{Reason}
+use Rattle.trail_state.specs.declared.reason.Reason.TheVariants.{Decision, Clause, Theory}
+use Rattle.trail_state.specs.Trail.{step, reason_on, IsTrail}
+use Rattle.trail_state.specs.Clauses.{IsReason}
+use Rattle.trail_state.proofs.Levels.{rising, below_top, opens}
+use Rattle.trail_state.proofs.Places.{place_apart, reason_at}
+use Rattle.rooted_trails.specs.Rooted.{Rooted, RootedBy}
+use Rattle.rooted_trails.specs.Marks.{flag, Implies, RootFollows, Grows}
+use Rattle.rooted_trails.proofs.Reasons.{rooted_above}
+use Rattle.rooted_trails.proofs.Blocking.{blocked_step, blocked_skip}
+use Rattle.conflict_analysis.specs.Walking.{CoveredBut, is_open, open_count, LowerFrom, Marked, Resolving, IsUip}
+use Rattle.conflict_analysis.proofs.Marking.{open_count-some, open_count-pos}
+
+-- the count falls by the place that is done
+pub Marked-down : (t : List Step) (top i : ℕ) (seen : List Bool) (count count' : ℕ) (lower : List ℕ) → Marked t top (suc i) seen count lower → count' + cond (is_open t seen top i) 1 0 ≡ count → Marked t top i seen count' lower
+Marked-down t top i seen count count' lower m e = record {
+  long = m.long;
+  counted = (let c = m.counted in omega arith);
+  above_root = m.above_root;
+  lower_all = m.lower_all;
+  lower_only = m.lower_only;
+}
+
+-- more marks, a greater count
+pub open_count-grows : (t : List Step) (seen seen' : List Bool) (top i : ℕ) → Grows seen seen' → 0 < open_count t seen top i → 0 < open_count t seen' top i
+open_count-grows t seen seen' top i grows pos =
+    let r = open_count-some t seen top i pos in
+    let p = and_parts (flag seen r.0) (eqb (step t r.0).level top) r.2 in
+    open_count-pos t seen' top i r.0 r.1 (and_from (flag seen' r.0) (eqb (step t r.0).level top) (grows r.0 p.0) p.1)
+
+module _ (F : Assignment → Type 0) (t : List Step) (top i : ℕ) (seen : List Bool) (count : ℕ) (lower : List ℕ) (r : Resolving F t top (suc i) seen count lower) (shape : IsTrail t top) (in' : i < length t) where
+  -- the open place that is left, if it is not i
+  left : 0 < open_count t seen top i → (j : ℕ) × (j < i) × (flag seen j ≡ true) × ((step t j).level ≡ top)
+  left pos =
+      let o = open_count-some t seen top i pos in
+      let p = and_parts (flag seen o.0) (eqb (step t o.0).level top) o.2 in
+      (o.0, o.1, p.0, eqb-true (step t o.0).level top p.1)
+
+  -- a marked place under which another open one stands has the current level
+  level_here : 0 < open_count t seen top i → (step t i).level ≡ top
+  level_here pos =
+      let l = left pos in
+      let up = rising 0 t top shape.levels l.0 i (let lt = l.1 in omega arith) in' in
+      let below = below_top 0 t top shape.levels i in' in
+      let e = l.3 in
+      omega arith
+
+  -- where the count is above 1 an open place is left below i
+  pub left_below : 1 < count → 0 < open_count t seen top i
+  left_below more = go (is_open t seen top i) r.marked.counted where
+    go : (b : Bool) → count ≡ open_count t seen top i + cond b 1 0 → 0 < open_count t seen top i
+    go true e = omega arith
+    go false e = omega arith
+
+  pub no_decision : 1 < count → (step t i).reason ≡ Decision → ⊥
+  no_decision more d =
+      let pos = left_below more in
+      let l = left pos in
+      let lt = opens 0 t top shape.levels l.0 i l.1 in' d in
+      let e = l.3 in
+      let here = level_here pos in
+      absurd (omega arith)
+
+  open_here : 1 < count → flag seen i ≡ true → is_open t seen top i ≡ true
+  open_here more here = and_from (flag seen i) (eqb (step t i).level top) here (eq-eqb (step t i).level top (level_here (left_below more)))
+
+  pub marked_down : 1 < count → flag seen i ≡ true → Marked t top i seen (count - 1) lower
+  marked_down more here = Marked-down t top i seen count (count - 1) lower r.marked (rw (open_here more here) (omega arith))
+
+  -- the resolution at i is done
+  pub resolving_step : (c : List ℕ) (seen' : List Bool) (count' : ℕ) (lower' : List ℕ) → 1 < count → Implies F c → RootFollows F t
+      → Marked t top i seen' count' lower' → Grows seen seen' → CoveredBut (Some (step t i).lit) c t seen' i
+      → Resolving F t top i seen' count' lower'
+  resolving_step c seen' count' lower' more imp root marked grows covered = record {
+    marked = marked;
+    positive = (let k = marked.counted in let g = open_count-grows t seen seen' top i grows (left_below more) in omega arith);
+    blocked = blocked_step F t top root shape c seen seen' i imp r.blocked grows (λ l h n. covered l h (λ e. n (some_same e)));
+  } where
+    some_same : {a b : ℕ} → Some a ≡ Some b → b ≡ a
+    some_same e = cc
+
+  -- where i is not marked an open place is left below it
+  pub left_off : flag seen i ≡ false → 0 < open_count t seen top i
+  left_off off =
+      let c : count ≡ open_count t seen top i + cond (is_open t seen top i) 1 0 = r.marked.counted in
+      let c' : count ≡ open_count t seen top i + 0 = rw off at c in
+      let p = r.positive in
+      omega arith
+
+  pub not_first : flag seen i ≡ false → 0 < i
+  not_first off = let l = left (left_off off) in let lt = l.1 in omega arith
+
+  pub not_first_open : 1 < count → 0 < i
+  not_first_open more = let l = left (left_below more) in let lt = l.1 in omega arith
+
+  -- a place that is not marked is passed over
+  pub resolving_skip : flag seen i ≡ false → Resolving F t top i seen count lower
+  resolving_skip off = record {
+    marked = Marked-down t top i seen count count lower r.marked (rw off (omega arith));
+    positive = r.positive;
+    blocked = blocked_skip F t seen i off r.blocked;
+  }
+
+  -- some open place is left up to i, so i has the current level
+  top_here : (step t i).level ≡ top
+  top_here =
+      let o = open_count-some t seen top (suc i) (let c = r.marked.counted in let p = r.positive in omega arith) in
+      let q = and_parts (flag seen o.0) (eqb (step t o.0).level top) o.2 in
+      let e = eqb-true (step t o.0).level top q.1 in
+      let up = rising 0 t top shape.levels o.0 i (let lt = o.1 in omega arith) in' in
+      let below = below_top 0 t top shape.levels i in' in
+      omega arith
+
+  -- the walk ends
+  pub uip_here : flag seen i ≡ true → count ≤ 1 → IsUip F t top i seen lower
+  uip_here here one =
+      let open' : is_open t seen top i ≡ true = and_from (flag seen i) (eqb (step t i).level top) here (eq-eqb (step t i).level top top_here) in
+      let c : count ≡ open_count t seen top i + cond (is_open t seen top i) 1 0 = r.marked.counted in
+      let c' : count ≡ open_count t seen top i + 1 = rw open' at c in
+      record {
+        within = in';
+        here = here;
+        top_level = top_here;
+        others = λ j lt h.
+          let up = below_top 0 t top shape.levels j (omega arith) in
+          elim (cases_eq (step t j).level top) [
+            inl e ↦ absurd (let p = open_count-pos t seen top i j lt (and_from (flag seen j) (eqb (step t j).level top) h (eq-eqb (step t j).level top e)) in omega arith)
+          | inr n ↦ omega arith
+          ];
+        blocked = r.blocked;
+        lower_all = r.marked.lower_all;
+        lower_only = r.marked.lower_only;
+      }
+
+-- an open place is left below i
+pub resolving_pos : (F : Assignment → Type 0) (t : List Step) (top i : ℕ) (seen : List Bool) (count : ℕ) (lower : List ℕ) → Resolving F t top i seen count lower → 0 < i
+resolving_pos F t top i seen count lower r =
+    let o = open_count-some t seen top i (let c = r.marked.counted in let p = r.positive in omega arith) in
+    let lt = o.1 in
+    omega arith
+
+-- the next turn of the walk
+pub walk_next : (F : Assignment → Type 0) (t : List Step) (top i : ℕ) (seen : List Bool) (count : ℕ) (lower : List ℕ) → i < length t → Resolving F t top i seen count lower → (i - 1 < length t) × Resolving F t top (i - 1 + 1) seen count lower
+walk_next F t top i seen count lower in' r =
+    let pos = resolving_pos F t top i seen count lower r in
+    let e : i ≡ i - 1 + 1 = omega arith in
+    (omega arith, subst (λ k. Resolving F t top k seen count lower) e r)
+
+-- three facts after a call that may want memory
+pub after_ok : {A E M G C Z : Type 0} (r : Result A E) → OnOk r M → OnOk r G → OnOk r C → (M → G → C → Z) → OnOk r Z
+after_ok (Ok a) m g c f = f m g c
+after_ok (Err e) m g c f = tt
+
+-- the reason of a literal above the root
+pub reason_here : (s : List (Option Stored)) (t : List Step) (top i l : ℕ) (r : Reason) → Rooted s t → IsTrail t top → i < length t → 0 < (step t i).level → l ≡ (step t i).lit → reason_on t (var_of l) ≡ Some r
+    → RootedBy s t i r × ((step t i).reason ≡ r)
+reason_here s t top i l r rooted shape in' above is e =
+    let found = reason_at t (var_of l) i (place_apart t (var_of l) i shape.apart in' (ap var_of (sym is))) in
+    let same : (step t i).reason ≡ r = some_same (sym found ∙ e) in
+    (subst (RootedBy s t i) same (rooted_above s t i rooted in' above), same) where
+  some_same : {a b : Reason} → Some a ≡ Some b → a ≡ b
+  some_same e = cc
+
+-- there is one
+pub reason_some : (t : List Step) (top i l : ℕ) → IsTrail t top → i < length t → l ≡ (step t i).lit → reason_on t (var_of l) ≡ None → ⊥
+reason_some t top i l shape in' is e =
+    let found = reason_at t (var_of l) i (place_apart t (var_of l) i shape.apart in' (ap var_of (sym is))) in
+    none_some (sym e ∙ found) where
+  none_some : {a : Reason} → None ≡ Some a → ⊥
+  none_some e = cc

@@ -1,0 +1,12 @@
+use Rattle.std.proofs.Common.{◌≡◌, sym, ◌∙◌, refl, eqb}
+use Rattle.std.proofs.lemmas.List.Filters.{dedup_is}
+use Rattle.std.proofs.lemmas.List.Sorted.{list_any-IsPermutation}
+use Rattle.std.proofs.lemmas.Map.Keys.{IsStrictlyIncreasing-dedup}
+use Rattle.conflict_analysis.proofs.Normals.{has-dedup}
+use Rattle.conflict_analysis.proofs.analysis.rise.Goals as goal
+
+pub returns-clause-rising : goal.returns-clause-rising
+returns-clause-rising c = rw (dedup_is eqb _ _ c.dedup.ensures.filtered) (IsStrictlyIncreasing-dedup _ c.in_ok-sort.ensures.sorted)
+
+pub returns-clause-same : goal.returns-clause-same
+returns-clause-same c l = rw (dedup_is eqb _ _ c.dedup.ensures.filtered) (has-dedup _ l ∙ sym (list_any-IsPermutation (λ x. eqb x l) _ _ c.sort.ensures.permutation))
