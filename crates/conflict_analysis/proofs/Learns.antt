@@ -1,5 +1,5 @@
 -- What the walk ends with.
-use Rattle.std.proofs.Common.{◌≡◌, ◌≢◌, ℕ, suc, zero, ◌+◌, ◌<◌, ◌≤◌, Bool, true, false, ◌&&◌, eqb, List, [], ◌∷◌, ◌++◌, length, ◌⊎◌, inl, inr, refl, sym, ap, ◌∙◌, arith, Some, None}
+use Rattle.std.proofs.Common.{◌≡◌, ℕ, suc, zero, ◌<◌, Bool, true, false, eqb, List, [], ◌∷◌, ◌++◌, length, ◌⊎◌, inl, inr, refl, sym, ap, ◌∙◌, arith, None}
 use Rattle.std.proofs.lemmas.Bool.{false≢true, cases_eq, eq-eqb, eqb-true, or_left, and_from, true_from_ne_false, false_from_ne_true}
 use Rattle.std.proofs.Math.Bool.{or-false}
 use Rattle.sat_terms.specs.Literal.{has, neg, var_of}
@@ -8,12 +8,12 @@ use Rattle.sat_terms.proofs.Literals.{var_of-neg, neg-neg}
 use Rattle.sat_terms.proofs.Truths.{lit_true-neg, clause_true-from, clause_true-some}
 use Rattle.redundancy.proofs.Touching.{has-append_left, has-append_right, has-append_cases}
 use Rattle.trail_state.specs.declared.trail.Step.{Step}
-use Rattle.trail_state.specs.Trail.{step, true_on, IsTrail}
+use Rattle.trail_state.specs.Trail.{step, IsTrail}
 use Rattle.trail_state.specs.Clauses.{FalseOn}
 use Rattle.trail_state.proofs.Places.{true_at_place}
-use Rattle.rooted_trails.specs.Marks.{flag, Implies, RootFollows, Blocked}
+use Rattle.rooted_trails.specs.Marks.{flag, Implies, RootFollows}
 use Rattle.rooted_trails.proofs.Blocking.{blocked_start}
-use Rattle.conflict_analysis.specs.Walking.{CoveredBut, is_open, open_count, LowerFrom, Marked, Resolving, IsUip}
+use Rattle.conflict_analysis.specs.Walking.{CoveredBut, open_count, Marked, Resolving, IsUip}
 use Rattle.conflict_analysis.specs.Learning.{lit_level, Reaches, IsAsserting}
 use Rattle.conflict_analysis.proofs.Marking.{open_count-pos}
 use Rattle.conflict_analysis.proofs.Highests.{level_here, Highest}
@@ -47,16 +47,16 @@ resolving_start F t top c seen count lower root shape imp above reaches marked c
       let lev : lit_level t l ≡ (step t c.0).level = level_here t top l c.0 shape c.2 (ap var_of c.3 ∙ var_of-neg l) in
       let here : (step t c.0).level ≡ top = sym lev ∙ reaches.2 in
       elim c.4 [
-        inl m ↦ open_count-pos t seen top (length t) c.0 c.1 (and_from (flag seen c.0) (eqb (step t c.0).level top) m (eq-eqb (step t c.0).level top here))
-      | inr z ↦ absurd (omega arith)
+        | inl m ↦ open_count-pos t seen top (length t) c.0 c.1 (and_from (flag seen c.0) (eqb (step t c.0).level top) m (eq-eqb (step t c.0).level top here))
+        | inr z ↦ absurd (omega arith)
       ]
 
 module _ (F : Assignment → Type 0) (t : List Step) (top i : ℕ) (seen : List Bool) (lower : List ℕ) (shape : IsTrail t top) (u : IsUip F t top i seen lower) where
   learned_cases : (l : ℕ) → has (lower ++ neg (step t i).lit ∷ []) l ≡ true → (has lower l ≡ true) ⊎ (l ≡ neg (step t i).lit)
   learned_cases l h =
       elim (has-append_cases lower (neg (step t i).lit ∷ []) l h) [
-        inl a ↦ inl a
-      | inr b ↦ inr (sym (eqb-true (neg (step t i).lit) l (rw or-false at b)))
+        | inl a ↦ inl a
+        | inr b ↦ inr (sym (eqb-true (neg (step t i).lit) l (rw or-false at b)))
       ]
 
   has_last : has (lower ++ neg (step t i).lit ∷ []) (neg (step t i).lit) ≡ true
@@ -71,22 +71,22 @@ module _ (F : Assignment → Type 0) (t : List Step) (top i : ℕ) (seen : List 
   learned_implied f sat = true_from_ne_false (clause_true f (lower ++ neg (step t i).lit ∷ [])) (λ out.
       let off = λ (l : ℕ) (m : has (lower ++ neg (step t i).lit ∷ []) l ≡ true). false_lit f l m out in
       u.blocked f sat (λ j lt m.
-        elim (cases_eq j i) [
-          inl e ↦ true-from_false f (step t j).lit (rw e (off (neg (step t i).lit) has_last))
+      elim (cases_eq j i) [
+        | inl e ↦ true-from_false f (step t j).lit (rw e (off (neg (step t i).lit) has_last))
         | inr n ↦
             let below : j < i = omega arith in
             let in' : j < length t = (let w = u.within in omega arith) in
             true-from_false f (step t j).lit (off (neg (step t j).lit) (has-append_left lower (neg (step t i).lit ∷ []) (neg (step t j).lit) (u.lower_all j in' m (u.others j below m))))
-        ])) where
-    false_lit : (f : Assignment) (l : ℕ) → has (lower ++ neg (step t i).lit ∷ []) l ≡ true → clause_true f (lower ++ neg (step t i).lit ∷ []) ≡ false → lit_true f l ≡ false
-    false_lit f l m out = false_from_ne_true (lit_true f l) (λ h. false≢true (sym out ∙ clause_true-from f (lower ++ neg (step t i).lit ∷ []) l m h))
+      ])) where
+        false_lit : (f : Assignment) (l : ℕ) → has (lower ++ neg (step t i).lit ∷ []) l ≡ true → clause_true f (lower ++ neg (step t i).lit ∷ []) ≡ false → lit_true f l ≡ false
+        false_lit f l m out = false_from_ne_true (lit_true f l) (λ h. false≢true (sym out ∙ clause_true-from f (lower ++ neg (step t i).lit ∷ []) l m h))
 
   -- it is false on the trail
   pub learned_false : FalseOn t (lower ++ neg (step t i).lit ∷ [])
   learned_false l h =
       elim (learned_cases l h) [
-        inl a ↦ let r = u.lower_only l a in true_at_place t r.0 (neg l) r.1 r.2
-      | inr e ↦ true_at_place t i (neg l) u.within (sym (ap neg e ∙ neg-neg (step t i).lit))
+        | inl a ↦ let r = u.lower_only l a in true_at_place t r.0 (neg l) r.1 r.2
+        | inr e ↦ true_at_place t i (neg l) u.within (sym (ap neg e ∙ neg-neg (step t i).lit))
       ]
 
   level_last : lit_level t (neg (step t i).lit) ≡ top
@@ -105,19 +105,20 @@ module _ (F : Assignment → Type 0) (t : List Step) (top i : ℕ) (seen : List 
     holds = has_last;
     at_top = level_last;
     others = λ k m n.
-      elim (learned_cases k m) [
-        inl a ↦ h.bound k a
-      | inr e ↦ absurd (n e)
-      ];
+        elim (learned_cases k m) [
+          | inl a ↦ h.bound k a
+          | inr e ↦ absurd (n e)
+        ];
     below =
-      elim h.attained [
-        inl z ↦ omega arith
-      | inr w ↦ (let q = level_lower w.0 w.1 in let e = w.2 in omega arith)
-      ];    attained =
-      elim h.attained [
-        inl z ↦ inl z
-      | inr w ↦ inr (w.0, has-append_left lower (neg (step t i).lit ∷ []) w.0 w.1, w.2)
-      ];
+        elim h.attained [
+          | inl z ↦ omega arith
+          | inr w ↦ (let q = level_lower w.0 w.1 in let e = w.2 in omega arith)
+        ];
+    attained =
+        elim h.attained [
+          | inl z ↦ inl z
+          | inr w ↦ inr (w.0, has-append_left lower (neg (step t i).lit ∷ []) w.0 w.1, w.2)
+        ];
   }
 
 -- a clause of the same literals
@@ -136,8 +137,8 @@ asserting_same t top l b c d same h = record {
   below = h.below;
   others = λ k m n. h.others k (sym (same k) ∙ m) n;
   attained =
-    elim h.attained [
-      inl z ↦ inl z
-    | inr w ↦ inr (w.0, same w.0 ∙ w.1, w.2)
-    ];
+      elim h.attained [
+        | inl z ↦ inl z
+        | inr w ↦ inr (w.0, same w.0 ∙ w.1, w.2)
+      ];
 }

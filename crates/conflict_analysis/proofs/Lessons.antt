@@ -1,5 +1,5 @@
 -- The learned clause, sorted.
-use Rattle.std.proofs.Common.{◌≡◌, ℕ, ◌<◌, Bool, List, [], ◌∷◌, ◌++◌, sym, subst, arith}
+use Rattle.std.proofs.Common.{◌≡◌, ℕ, ◌<◌, Bool, List, [], ◌∷◌, ◌++◌}
 use Rattle.std.specs.List.Sorted.{IsStrictlyIncreasing}
 use Rattle.sat_terms.specs.Literal.{has, neg}
 use Rattle.sat_terms.specs.Truth.{Assignment}

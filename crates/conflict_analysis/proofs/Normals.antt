@@ -1,5 +1,5 @@
 -- Clauses that are sorted and false are normal.
-use Rattle.std.proofs.Common.{◌≡◌, ◌≢◌, ℕ, suc, zero, ◌+◌, ◌<◌, Bool, true, false, eqb, List, [], ◌∷◌, length, get_or, ◌⊎◌, inl, inr, refl, sym, ap, ◌∙◌, subst, arith}
+use Rattle.std.proofs.Common.{◌≡◌, ℕ, suc, zero, ◌<◌, Bool, true, false, eqb, List, [], ◌∷◌, length, get_or, inl, inr, refl, sym, ap, ◌∙◌, subst, arith}
 use Rattle.std.specs.Prelude.{Contains}
 use Rattle.std.specs.List.{dedup}
 use Rattle.std.specs.List.Sorted.{IsStrictlyIncreasing}
@@ -7,7 +7,7 @@ use Rattle.std.proofs.lemmas.Bool.{false≢true, or_cases, or_left, or_right, eq
 use Rattle.std.proofs.lemmas.List.Kept.{AllPairs-from_increasing, Contains-dedup_nat, Contains-from_dedup}
 use Rattle.sat_terms.specs.Literal.{has, neg, var_of}
 use Rattle.sat_terms.specs.Normal.{IsNormal}
-use Rattle.sat_terms.proofs.Literals.{var_of-neg, same_var, neg-other, neg-neg}
+use Rattle.sat_terms.proofs.Literals.{var_of-neg, same_var, neg-other}
 use Rattle.trail_state.specs.declared.trail.Step.{Step}
 use Rattle.trail_state.specs.Trail.{step, IsTrail}
 use Rattle.trail_state.specs.Clauses.{FalseOn}
@@ -30,21 +30,21 @@ pub normal_false : (t : List Step) (top : ℕ) (c : List ℕ) → IsTrail t top 
 normal_false t top c shape rises false' = record {
   rising = AllPairs-from_increasing c rises;
   apart = λ i j d lt in' e.
-    let low = AllPairs-from_increasing c rises i j d lt in' in
-    let a = has_at c i d (omega arith) in
-    let b = has_at c j d in' in
-    elim (same_var (get_or c i d) (get_or c j d) e) [
-      inl s ↦ omega (arith, s, low)
-    | inr s ↦ not_both t top (get_or c j d) c shape false' b (subst (λ x. has c x ≡ true) s a)
-    ];
+      let low = AllPairs-from_increasing c rises i j d lt in' in
+      let a = has_at c i d (omega arith) in
+      let b = has_at c j d in' in
+      elim (same_var (get_or c i d) (get_or c j d) e) [
+        | inl s ↦ omega (arith, s, low)
+        | inr s ↦ not_both t top (get_or c j d) c shape false' b (subst (λ x. has c x ≡ true) s a)
+      ];
 }
 
 Contains-from_has : (c : List ℕ) (l : ℕ) → has c l ≡ true → Contains c l
 Contains-from_has [] l h = absurd (false≢true h)
 Contains-from_has (x ∷ c) l h =
     elim (or_cases (eqb x l) (has c l) h) [
-      inl e ↦ (0, omega arith, eqb-true x l e)
-    | inr h' ↦ let r = Contains-from_has c l h' in let lt = r.1 in (suc r.0, omega arith, r.2)
+      | inl e ↦ (0, omega arith, eqb-true x l e)
+      | inr h' ↦ let r = Contains-from_has c l h' in let lt = r.1 in (suc r.0, omega arith, r.2)
     ]
 
 has-from_Contains : (c : List ℕ) (l k : ℕ) → k < length c → get_or c k l ≡ l → has c l ≡ true
@@ -59,5 +59,5 @@ same_tests false false to from = refl
 
 pub has-dedup : (c : List ℕ) (l : ℕ) → has (dedup eqb c) l ≡ has c l
 has-dedup c l = same_tests (has (dedup eqb c) l) (has c l)
-  (λ h. let r = Contains-from_dedup eqb c l (Contains-from_has (dedup eqb c) l h) in has-from_Contains c l r.0 r.1 r.2)
-  (λ h. let r = Contains-dedup_nat c l (Contains-from_has c l h) in has-from_Contains (dedup eqb c) l r.0 r.1 r.2)
+    (λ h. let r = Contains-from_dedup eqb c l (Contains-from_has (dedup eqb c) l h) in has-from_Contains c l r.0 r.1 r.2)
+    (λ h. let r = Contains-dedup_nat c l (Contains-from_has c l h) in has-from_Contains (dedup eqb c) l r.0 r.1 r.2)

@@ -1,22 +1,20 @@
 -- The walk down the trail.
-use Rattle.std.proofs.Common.{◌≡◌, ◌≢◌, ℕ, suc, zero, ◌+◌, ◌-◌, ◌<◌, ◌≤◌, Bool, true, false, cond, ◌&&◌, eqb, List, length, inl, inr, refl, sym, ap, ◌∙◌, subst, arith, Option, Some, None, Result, Ok, Err, OnOk}
-use Rattle.std.specs.Prelude.{IsSome}
+use Rattle.std.proofs.Common.{◌≡◌, ℕ, suc, ◌+◌, ◌-◌, ◌<◌, ◌≤◌, Bool, true, false, cond, eqb, List, length, inl, inr, sym, ap, ◌∙◌, subst, arith, Option, Some, None, Result, Ok, Err, OnOk}
 use Rattle.std.proofs.lemmas.Bool.{cases_eq, eqb-true, eq-eqb, and_parts, and_from}
-use Rattle.sat_terms.specs.Literal.{has, neg, var_of}
+use Rattle.sat_terms.specs.Literal.{var_of}
 use Rattle.sat_terms.specs.Truth.{Assignment}
-use Rattle.clause_store.specs.Stored.{Stored, slot, slot_lits}
+use Rattle.clause_store.specs.Stored.{Stored}
 use Rattle.trail_state.specs.declared.trail.Step.{Step}
 use Rattle.trail_state.specs.declared.reason.Reason.{Reason}
-use Rattle.trail_state.specs.declared.reason.Reason.TheVariants.{Decision, Clause, Theory}
+use Rattle.trail_state.specs.declared.reason.Reason.TheVariants.{Decision}
 use Rattle.trail_state.specs.Trail.{step, reason_on, IsTrail}
-use Rattle.trail_state.specs.Clauses.{IsReason}
 use Rattle.trail_state.proofs.Levels.{rising, below_top, opens}
 use Rattle.trail_state.proofs.Places.{place_apart, reason_at}
 use Rattle.rooted_trails.specs.Rooted.{Rooted, RootedBy}
 use Rattle.rooted_trails.specs.Marks.{flag, Implies, RootFollows, Grows}
 use Rattle.rooted_trails.proofs.Reasons.{rooted_above}
 use Rattle.rooted_trails.proofs.Blocking.{blocked_step, blocked_skip}
-use Rattle.conflict_analysis.specs.Walking.{CoveredBut, is_open, open_count, LowerFrom, Marked, Resolving, IsUip}
+use Rattle.conflict_analysis.specs.Walking.{CoveredBut, is_open, open_count, Marked, Resolving, IsUip}
 use Rattle.conflict_analysis.proofs.Marking.{open_count-some, open_count-pos}
 
 -- the count falls by the place that is done
@@ -130,11 +128,11 @@ module _ (F : Assignment → Type 0) (t : List Step) (top i : ℕ) (seen : List 
         here = here;
         top_level = top_here;
         others = λ j lt h.
-          let up = below_top 0 t top shape.levels j (omega arith) in
-          elim (cases_eq (step t j).level top) [
-            inl e ↦ absurd (let p = open_count-pos t seen top i j lt (and_from (flag seen j) (eqb (step t j).level top) h (eq-eqb (step t j).level top e)) in omega arith)
-          | inr n ↦ omega arith
-          ];
+            let up = below_top 0 t top shape.levels j (omega arith) in
+            elim (cases_eq (step t j).level top) [
+              | inl e ↦ absurd (let p = open_count-pos t seen top i j lt (and_from (flag seen j) (eqb (step t j).level top) h (eq-eqb (step t j).level top e)) in omega arith)
+              | inr n ↦ omega arith
+            ];
         blocked = r.blocked;
         lower_all = r.marked.lower_all;
         lower_only = r.marked.lower_only;
@@ -166,13 +164,13 @@ reason_here s t top i l r rooted shape in' above is e =
     let found = reason_at t (var_of l) i (place_apart t (var_of l) i shape.apart in' (ap var_of (sym is))) in
     let same : (step t i).reason ≡ r = some_same (sym found ∙ e) in
     (subst (RootedBy s t i) same (rooted_above s t i rooted in' above), same) where
-  some_same : {a b : Reason} → Some a ≡ Some b → a ≡ b
-  some_same e = cc
+      some_same : {a b : Reason} → Some a ≡ Some b → a ≡ b
+      some_same e = cc
 
 -- there is one
 pub reason_some : (t : List Step) (top i l : ℕ) → IsTrail t top → i < length t → l ≡ (step t i).lit → reason_on t (var_of l) ≡ None → ⊥
 reason_some t top i l shape in' is e =
     let found = reason_at t (var_of l) i (place_apart t (var_of l) i shape.apart in' (ap var_of (sym is))) in
     none_some (sym e ∙ found) where
-  none_some : {a : Reason} → None ≡ Some a → ⊥
-  none_some e = cc
+      none_some : {a : Reason} → None ≡ Some a → ⊥
+      none_some e = cc

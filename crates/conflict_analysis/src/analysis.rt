@@ -50,7 +50,13 @@ struct Lesson {
 /// is false, follows from the clauses of the store, and has one literal of the current level, which the tally owes then. The
 /// tally must be unspent and owe nothing. `Conflicts` comes exactly where its count is its budget and below 2^62, and it is
 /// spent then. After `Memory` it is as before.
-pub fn analyze(alloc: Global, store: &Store, trail: &Trail, tally: &mut Tally, conflict: ClauseId) -> Result<Learned, AnalyzeStop>
+pub fn analyze(
+    alloc: Global,
+    store: &Store,
+    trail: &Trail,
+    tally: &mut Tally,
+    conflict: ClauseId,
+) -> Result<Learned, AnalyzeStop>
     requires fresh { tally.old.is_spent ≡ false }
     requires settled { tally.old.owes ≡ None }
     requires live { IsSome (slot store.now conflict) }

@@ -65,7 +65,13 @@ impl Resolvent {
     }
 
     // Marks the places of the literals of a clause but for one, where these are false below a place.
-    pub(crate) fn mark_all(&mut self, trail: &Trail, clause: &[Lit], skip: &Option<Lit>, below: usize) -> Result<(), Memory>
+    pub(crate) fn mark_all(
+        &mut self,
+        trail: &Trail,
+        clause: &[Lit],
+        skip: &Option<Lit>,
+        below: usize,
+    ) -> Result<(), Memory>
         requires within { below ≤ length trail.now.steps }
         requires marked { Marked trail.now.steps trail.now.level below self.old.seen.items self.old.count self.old.lower.items }
         requires are_false { (l : ℕ) → has clause.now l ≡ true → skip.now ≢ Some l → true_on (take below trail.now.steps) (neg l) ≡ true }

@@ -96,7 +96,13 @@ fn conflicts_teach(rt: HostRuntime) -> Result<(), Fail> {
     let not_one = lit(-1)?;
     let mut tally = Tally::new();
     tally.start(1);
-    let answer = analyze(rt.alloc(), &made.store, &made.trail, &mut tally, made.conflict);
+    let answer = analyze(
+        rt.alloc(),
+        &made.store,
+        &made.trail,
+        &mut tally,
+        made.conflict,
+    );
     let learned = learned_of(answer)?;
     assert_eq!(rt; learned.lits.as_slice(), [not_one].as_slice());
     assert_eq!(rt; (learned.back_level, learned.glue), (0, 1));
@@ -111,7 +117,13 @@ fn budgets_end(rt: HostRuntime) -> Result<(), Fail> {
     let made = example(rt.alloc())?;
     let mut tally = Tally::new();
     tally.start(0);
-    let answer = analyze(rt.alloc(), &made.store, &made.trail, &mut tally, made.conflict);
+    let answer = analyze(
+        rt.alloc(),
+        &made.store,
+        &made.trail,
+        &mut tally,
+        made.conflict,
+    );
     assert!(rt; answer.err() == Some(AnalyzeStop::Conflicts(0)));
     assert!(rt; tally.is_spent());
     assert_eq!(rt; tally.owes(), None);
@@ -133,7 +145,13 @@ fn debts_are_settled(rt: HostRuntime) -> Result<(), Fail> {
     let not_one = lit(-1)?;
     let mut tally = Tally::new();
     tally.start(2);
-    let answer = analyze(rt.alloc(), &made.store, &made.trail, &mut tally, made.conflict);
+    let answer = analyze(
+        rt.alloc(),
+        &made.store,
+        &made.trail,
+        &mut tally,
+        made.conflict,
+    );
     let learned = learned_of(answer)?;
     if learned.back_level < made.trail.level() {
         made.trail.back_to(learned.back_level);

@@ -1,4 +1,4 @@
-use Rattle.std.proofs.Common.{◌≡◌, ◌∙◌, sym, Some}
+use Rattle.std.proofs.Common.{◌≡◌, ◌∙◌, sym}
 use Rattle.trail_state.specs.Trail.{step}
 use Rattle.trail_state.proofs.Places.{lit_read}
 use Rattle.rooted_trails.specs.Rooted.{RootedBy}

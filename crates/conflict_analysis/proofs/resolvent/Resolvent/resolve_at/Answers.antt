@@ -1,6 +1,5 @@
-use Rattle.std.proofs.Common.{◌≡◌, suc, ◌+◌, ◌<◌, arith, add-one}
+use Rattle.std.proofs.Common.{add-one}
 use Rattle.clause_store.specs.Stored.{StoreTrue, slot, slot_lits}
-use Rattle.trail_state.specs.Trail.{step}
 use Rattle.trail_state.proofs.Places.{lit_read}
 use Rattle.rooted_trails.proofs.Reasons.{live_implied, root_follows}
 use Rattle.conflict_analysis.proofs.Walks.{no_decision, marked_down, resolving_step, after_ok}
