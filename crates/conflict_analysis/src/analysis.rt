@@ -7,7 +7,6 @@ ghost use Rattle.rooted_trails.specs.Marks.{Implies};
 ghost use Rattle.clause_store.specs.Stored.{slot, slot_lits, StoreTrue};
 ghost use Rattle.trail_state.specs.Clauses.{FalseOn};
 ghost use Rattle.rooted_trails.specs.Rooted.{Rooted};
-ghost use Rattle.conflict_analysis.specs.Counting.{IsDue};
 ghost use Rattle.conflict_analysis.specs.Learning.{Reaches, IsAsserting, Owes, Rises, Stops, glue_of};
 
 use crate::levels::{glue, highest};
