@@ -1,0 +1,131 @@
+-- A trail that grows by implied literals.
+use Rattle.std.proofs.Common.{◌≡◌, ◌≢◌, ℕ, ◌+◌, ◌<◌, ◌≤◌, Bool, true, false, not, eqb, ◌||◌, ◌&&◌, List, [], ◌∷◌, ◌++◌, length, get_or, take, length-append, append_assoc, inl, inr, refl, sym, ◌∙◌, arith, Option, None}
+use Rattle.std.proofs.lemmas.Bool.{cases_lt, or_cases, eqb-true, false≢true, false_from_ne_true}
+use Rattle.std.proofs.lemmas.List.{length_push, take-append-le, take_at, append-nil, get_or_append_left}
+use Rattle.sat_terms.specs.Literal.{has, var_of}
+use Rattle.sat_terms.specs.Answer.{Within}
+use Rattle.clause_store.specs.Stored.{Stored, slot, slot_lits, Fills}
+use Rattle.trail_state.specs.declared.trail.Step.{Step}
+use Rattle.trail_state.specs.declared.reason.Reason.TheVariants.{Clause}
+use Rattle.trail_state.specs.Trail.{Trace, step, no_step}
+use Rattle.trail_state.specs.Clauses.{IsUnit, IsQuiet, IsReason}
+use Rattle.trail_state.proofs.Changes.{step_new, old_or_new}
+use Rattle.watch_lists.specs.Propagation.{AllReady, IsImplied, Grown, AllQuiet}
+use Rattle.watch_lists.proofs.Members.{has_more, All-has}
+
+step_left : (t more : List Step) (i : ℕ) → i < length t → step (t ++ more) i ≡ step t i
+step_left t more i in' = get_or_append_left t more no_step i in'
+
+-- a reason stays one on a longer trail
+pub reason_kept : (c : List ℕ) (t more : List Step) (i : ℕ) → i < length t → IsReason c t i → IsReason c (t ++ more) i
+reason_kept c t more i in' h = record {
+  holds = rw (step_left t more i in') h.holds;
+  others = λ l m n. rw (take-append-le i t more (omega arith)) (h.others l m (rw (step_left t more i in') at n));
+}
+
+implied_kept : (ids : List ℕ) (s : List (Option Stored)) (t more : List Step) (level i : ℕ) → i < length t → IsImplied ids s t level i → IsImplied ids s (t ++ more) level i
+implied_kept ids s t more level i in' h = record {
+  stands = rw (step_left t more i in') h.stands;
+  by = h.by;
+  attached = h.attached;
+  reason = rw (step_left t more i in') h.reason;
+  implied = reason_kept (slot_lits (slot s h.by)) t more i in' h.implied;
+}
+
+-- a unit clause is a reason for its literal
+pub unit_reason : (c : List ℕ) (t : List Step) (x : Step) → IsUnit t c x.lit → IsReason c (t ++ x ∷ []) (length t)
+unit_reason c t x u = record {
+  holds = rw (step_new t x) u.holds;
+  others = λ l m n. rw (take_at t (x ∷ []) (length t) refl) (u.others l m (rw (step_new t x) at n));
+}
+
+pub grown_none : (ids : List ℕ) (s : List (Option Stored)) (old : Trace) → Grown ids s old old
+grown_none ids s old = record {
+  level = refl;
+  declared = refl;
+  tail = [];
+  steps = sym (append-nil old.steps);
+  implied = λ i a b. absurd (omega arith);
+}
+
+-- one implied literal more
+pub grown_push : (ids : List ℕ) (s : List (Option Stored)) (old now new : Trace) (id l : ℕ) → Grown ids s old now → has ids id ≡ true → IsUnit now.steps (slot_lits (slot s id)) l
+    → new.steps ≡ now.steps ++ record { lit = l; level = now.level; reason = Clause id } ∷ [] → new.level ≡ now.level → new.declared ≡ now.declared → Grown ids s old new
+grown_push ids s old now new id l g at u steps level declared =
+    let x : Step = record { lit = l; level = now.level; reason = Clause id } in
+    record {
+      level = level ∙ g.level;
+      declared = declared ∙ g.declared;
+      tail = g.tail ++ x ∷ [];
+      steps = steps ∙ rw (g.steps, append_assoc) refl;
+      implied = λ i a b.
+          rw steps
+          (elim (old_or_new now.steps x i (rw steps at b)) [
+            | inl lt ↦ implied_kept ids s now.steps (x ∷ []) old.level i lt (g.implied i a lt)
+            | inr e ↦
+                rw e
+                (record {
+                  stands = rw (step_new now.steps x) g.level;
+                  by = id;
+                  attached = at;
+                  reason = rw (step_new now.steps x) refl;
+                  implied = unit_reason (slot_lits (slot s id)) now.steps x u;
+                })
+          ]);
+    }
+
+-- the growth of a growth
+pub grown_more : (ids : List ℕ) (s : List (Option Stored)) (a b c : Trace) → Grown ids s a b → Grown ids s b c → Grown ids s a c
+grown_more ids s a b c g h = record {
+  level = h.level ∙ g.level;
+  declared = h.declared ∙ g.declared;
+  tail = g.tail ++ h.tail;
+  steps = h.steps ∙ rw (g.steps, append_assoc) refl;
+  implied = λ i from within.
+      elim (cases_lt i (length b.steps)) [
+        | inl lt ↦ rw h.steps (implied_kept ids s b.steps h.tail a.level i lt (g.implied i from lt))
+        | inr ge ↦ rw g.level at (h.implied i ge within)
+      ];
+}
+
+grown_longer : (ids : List ℕ) (s : List (Option Stored)) (a b : Trace) → Grown ids s a b → length a.steps ≤ length b.steps
+grown_longer ids s a b g = rw (g.steps, length-append) (omega arith)
+
+-- a trail that was pushed to is not as long as before
+pub pushed_longer : (ids : List ℕ) (s : List (Option Stored)) (old now : Trace) (t : List Step) (x : Step) → Grown ids s old now → t ≡ now.steps ++ x ∷ [] → length t ≡ length old.steps → ⊥
+pushed_longer ids s old now t x g e same =
+    let a = grown_longer ids s old now g in
+    let b = length_push now.steps x in
+    let same' : length (now.steps ++ x ∷ []) ≡ length old.steps = rw e at same in
+    absurd (omega arith)
+
+-- one clause more is quiet
+pub quiet_more : (ids : List ℕ) (s : List (Option Stored)) (t : List Step) (i id : ℕ) → i < length ids → id ≡ get_or ids i id → AllQuiet (take i ids) s t → IsQuiet t (slot_lits (slot s id)) → AllQuiet (take (i + 1) ids) s t
+quiet_more ids s t i id in' is all here k h =
+    elim (has_more ids i id k in' is h) [
+      | inl a ↦ all k a
+      | inr e ↦ rw (← e) here
+    ]
+
+-- what the code needs to assign a literal of a unit clause
+pub unit_declared : (ids : List ℕ) (s : List (Option Stored)) (n id l : ℕ) (t : List Step) → AllReady ids s n → has ids id ≡ true → IsUnit t (slot_lits (slot s id)) l → var_of l ≤ n
+unit_declared ids s n id l t ready at u = (All-has (λ k. (1 ≤ var_of k) × (var_of k ≤ n)) (slot_lits (slot s id)) l (ready id at).1 u.holds).1
+
+-- clauses that are attached stay ready where one is added and attached, and where one is detached
+pub ready_fresh : (ids : List ℕ) (s : List (Option Stored)) (n id : ℕ) → AllReady ids s n → slot s id ≡ None → has ids id ≡ false
+ready_fresh ids s n id ready free = false_from_ne_true (has ids id) (λ h. absurd (false≢true (rw free at (ready id h).0)))
+
+pub ready_attached : (ids ids' : List ℕ) (s s' : List (Option Stored)) (n id : ℕ) (c : Stored) → AllReady ids s n → Fills s s' id c → Within n c.lits → ((k : ℕ) → has ids' k ≡ (has ids k || eqb id k)) → AllReady ids' s' n
+ready_attached ids ids' s s' n id c ready fills within members k h =
+    elim (or_cases (has ids k) (eqb id k) (sym (members k) ∙ h)) [
+      | inl a ↦
+          let other : k ≢ id = λ e. absurd (false≢true (sym (ready_fresh ids s n id ready fills.free) ∙ rw e at a)) in
+          rw (fills.others k other) (ready k a)
+      | inr e ↦ let same : id ≡ k = eqb-true id k e in rw (← same, fills.filled) (refl, within)
+    ]
+
+pub ready_detached : (ids ids' : List ℕ) (s : List (Option Stored)) (n id : ℕ) → AllReady ids s n → ((k : ℕ) → has ids' k ≡ (has ids k && not (eqb k id))) → AllReady ids' s n
+ready_detached ids ids' s n id ready members k h = ready k (and_first (has ids k) (not (eqb k id)) (sym (members k) ∙ h)) where
+  and_first : (a b : Bool) → (a && b) ≡ true → a ≡ true
+  and_first true b e = refl
+  and_first false b e = e

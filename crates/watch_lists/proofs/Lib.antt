@@ -1,0 +1,4 @@
+pub mod Following
+pub mod Members
+pub mod Looking
+pub mod Growing
