@@ -83,39 +83,63 @@ fn detach_at_root(watches: &mut Watches, store: &Store, trail: &mut Trail, id: C
     watches.detach(store, id);
 }
 
+// Whether `1 2` and `-1 3`, with -2 decided, imply 1 and then 3.
+fn implies_in_turn(
+    watches: &mut Watches,
+    store: &mut Store,
+    trail: &mut Trail,
+    one: Lit,
+    two: Lit,
+    three: Lit,
+) -> Result<bool, Fail>
+    requires attached { watches.old.attached ≡ [] }
+    requires watches { watches.old.declared ≡ 0 }
+    requires trail { trail.old.declared ≡ 0 }
+{
+    declare_three(watches, store, trail)?;
+    let first = attach_pair(watches, store, one, two)?;
+    attach_pair(watches, store, one.neg(), three)?;
+    let found = propagate_from(watches, store, trail, two.neg())?;
+    let lits = trail.lits() == [two.neg(), one, three].as_slice();
+    let reason = trail.reason_of(one.var()) == Some(Reason::Clause(first));
+    Ok(found.is_none() && lits && reason)
+}
+
+// Whether one of `1 2` and `1 -2` is found false with -1 decided, and none once the second is detached.
+fn finds_a_false_clause(
+    watches: &mut Watches,
+    store: &mut Store,
+    trail: &mut Trail,
+    one: Lit,
+    two: Lit,
+) -> Result<bool, Fail>
+    requires attached { watches.old.attached ≡ [] }
+    requires watches { watches.old.declared ≡ 0 }
+    requires trail { trail.old.declared ≡ 0 }
+{
+    declare_three(watches, store, trail)?;
+    let first = attach_pair(watches, store, one, two)?;
+    let second = attach_pair(watches, store, one, two.neg())?;
+    let found = propagate_from(watches, store, trail, one.neg())?;
+    let is_false = found == Some(first) || found == Some(second);
+    detach_at_root(watches, store, trail, second);
+    let left = propagate_from(watches, store, trail, one.neg())?;
+    let lits = trail.lits() == [one.neg(), two].as_slice();
+    Ok(is_false && left.is_none() && lits)
+}
+
 #[test]
-fn clauses_imply_one_after_the_other(rt: HostRuntime) -> Result<(), Fail> {
+fn propagation_over_two_clauses(rt: HostRuntime) -> Result<(), Fail> {
     let one = Lit::new(1).ok_or("no literal")?;
     let two = Lit::new(2).ok_or("no literal")?;
     let three = Lit::new(3).ok_or("no literal")?;
     let mut store = Store::new(rt.alloc());
     let mut watches = Watches::new(rt.alloc());
     let mut trail = Trail::new(rt.alloc());
-    declare_three(&mut watches, &store, &mut trail)?;
-    let first = attach_pair(&mut watches, &mut store, one, two)?;
-    attach_pair(&mut watches, &mut store, one.neg(), three)?;
-    let found = propagate_from(&mut watches, &store, &mut trail, two.neg())?;
-    assert!(rt; found.is_none());
-    assert_eq!(rt; trail.lits(), [two.neg(), one, three].as_slice());
-    assert!(rt; trail.reason_of(one.var()) == Some(Reason::Clause(first)));
-    Ok(())
-}
-
-#[test]
-fn a_false_clause_is_found(rt: HostRuntime) -> Result<(), Fail> {
-    let one = Lit::new(1).ok_or("no literal")?;
-    let two = Lit::new(2).ok_or("no literal")?;
+    assert!(rt; implies_in_turn(&mut watches, &mut store, &mut trail, one, two, three)?);
     let mut store = Store::new(rt.alloc());
     let mut watches = Watches::new(rt.alloc());
     let mut trail = Trail::new(rt.alloc());
-    declare_three(&mut watches, &store, &mut trail)?;
-    let first = attach_pair(&mut watches, &mut store, one, two)?;
-    let second = attach_pair(&mut watches, &mut store, one, two.neg())?;
-    let found = propagate_from(&mut watches, &store, &mut trail, one.neg())?;
-    assert!(rt; found == Some(first) || found == Some(second));
-    detach_at_root(&mut watches, &store, &mut trail, second);
-    let left = propagate_from(&mut watches, &store, &mut trail, one.neg())?;
-    assert!(rt; left.is_none());
-    assert_eq!(rt; trail.lits(), [one.neg(), two].as_slice());
+    assert!(rt; finds_a_false_clause(&mut watches, &mut store, &mut trail, one, two)?);
     Ok(())
 }

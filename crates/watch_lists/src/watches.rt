@@ -105,7 +105,8 @@ impl Watches {
     /// Tells the lists that the trail went back: they follow it again if they followed it before.
     pub fn cut(&mut self, trail: &Trail)
         requires { CanFollow self.old trail.now }
-        ensures same { self.new ≡ self.old }
+        ensures attached { self.new.attached ≡ self.old.attached }
+        ensures declared { self.new.declared ≡ self.old.declared }
         ensures follows { (s : List (Option Stored)) (before : Trace) (level : ℕ) → IsTrue (follows self.old s before) → IsBack before trail.now level → IsTrue (follows self.new s trail.now) }
     {
         let _ = trail;
@@ -130,7 +131,8 @@ impl Watches {
     ) -> Result<Option<ClauseId>, Memory>
         requires ready { AllReady self.old.attached store.now trail.old.declared }
         requires following { IsTrue (follows self.old store.now trail.old) }
-        ensures watches { self.new ≡ self.old }
+        ensures attached { self.new.attached ≡ self.old.attached }
+        ensures declared { self.new.declared ≡ self.old.declared }
         ensures follows { IsTrue (follows self.new store.now trail.new) }
         ensures grown { Grown self.old.attached store.now trail.old trail.new }
         ensures conflict { IfOk result (λ found. IfSome found (λ id. (has self.old.attached id ≡ true) × FalseOn trail.new.steps (slot_lits (slot store.now id)))) }
