@@ -1,9 +1,9 @@
 //! Learning from a conflict.
-ghost use Rattle.std.specs.Prelude.{◌≡◌, ◌<◌, ℕ, OnOk, IfOk, IfErr, IsSome, false, None, Err};
+ghost use Rattle.std.specs.Prelude.{◌≡◌, ◌<◌, ℕ, OnOk, IfOk, IfErr, IsSome, false, None};
 ghost use Rattle.std.specs.List.Sorted.{IsStrictlyIncreasing};
 ghost use Rattle.sat_terms.specs.Literal.{has};
 ghost use Rattle.sat_terms.specs.Normal.{IsNormal};
-ghost use Rattle.rooted_trails.specs.Marks.{Implies};
+ghost use Rattle.redundancy.specs.Redundancy.{Implies};
 ghost use Rattle.clause_store.specs.Stored.{slot, slot_lits, StoreTrue};
 ghost use Rattle.trail_state.specs.Clauses.{FalseOn};
 ghost use Rattle.rooted_trails.specs.Rooted.{Rooted};

@@ -2,7 +2,7 @@
 #![tactic(auto)]
 
 pub mod analysis;
-mod levels;
+pub mod levels;
 mod resolvent;
 pub mod tally;
 #[cfg(test)]

@@ -15,7 +15,8 @@ use Rattle.trail_state.specs.Clauses.{IsReason, IsUnit}
 use Rattle.trail_state.proofs.Changes.{step_old, step_new, old_or_new}
 use Rattle.trail_state.proofs.Levels.{decided}
 use Rattle.rooted_trails.specs.Rooted.{RootedBy, Rooted}
-use Rattle.rooted_trails.specs.Marks.{Implies, RootFollows}
+use Rattle.rooted_trails.specs.Marks.{RootFollows}
+use Rattle.redundancy.specs.Redundancy.{Implies}
 use Rattle.rooted_trails.proofs.Falses.{place_in_front, false_by_neg, resolved}
 
 -- a live clause is implied

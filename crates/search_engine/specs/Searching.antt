@@ -1,0 +1,76 @@
+-- What a search needs, keeps and finds.
+use Rattle.std.specs.Prelude.{◌≡◌, ◌<◌, ◌≤◌, ◌^◌, ℕ, Bool, true, List, length, Option, IsSome, is_some, IsTrue}
+use Rattle.sat_terms.specs.Literal.{has, pos_lit}
+use Rattle.sat_terms.specs.Truth.{Assignment, values}
+use Rattle.sat_terms.specs.Answer.{Within, IsModel, IsCore}
+use Rattle.clause_store.specs.Stored.{Stored, slot, slot_lits, is_firm, FirmTrue, StoreTrue}
+use Rattle.trail_state.specs.declared.trail.Step.{Step}
+use Rattle.trail_state.specs.Trail.{true_on, value_on}
+use Rattle.rooted_trails.specs.Rooted.{Rooted}
+use Rattle.watch_lists.specs.Propagation.{follows}
+use Rattle.conflict_analysis.specs.Counting.{Counted}
+use Rattle.search_engine.specs.declared.core.Core.{Core}
+use Rattle.search_engine.specs.declared.core.Found.{Found}
+use Rattle.search_engine.specs.declared.core.Found.TheVariants as found
+use Rattle.search_engine.specs.declared.core.Spent.TheVariants.{Conflicts}
+
+-- every variable of a live clause is among the first n
+abbrev pub StoreWithin : ℕ → List (Option Stored) → Type 0
+StoreWithin n s = (id : ℕ) → IsSome (slot s id) → Within n (slot_lits (slot s id))
+
+-- the attached clauses are exactly the live ones
+abbrev pub AttachesLive : List ℕ → List (Option Stored) → Type 0
+AttachesLive ids s = (id : ℕ) → has ids id ≡ is_some (slot s id)
+
+-- What a search under these assumptions needs.
+pub record IsReady (assumptions : List ℕ) (c : Core) : Type 0 where
+  -- each literal that was not decided has a reason among the clauses
+  pub rooted : Rooted c.store c.trail.steps
+  pub attached : AttachesLive c.watches.attached c.store
+  pub following : IsTrue (follows c.watches c.store c.trail)
+  -- the variables of clauses and assumptions are declared, and have their places in the model
+  pub within : StoreWithin c.trail.declared c.store
+  pub assumed : Within c.trail.declared assumptions
+  pub watched : c.trail.declared ≤ c.watches.declared
+  pub room : c.trail.declared ≤ length c.model.items
+
+-- A store has learned: its firm clauses are the same, and whatever made all of its clauses true makes those of now true.
+pub record Learns (old new : List (Option Stored)) : Type 0 where
+  pub firm : (id : ℕ) → is_firm (slot old id) ≡ true → slot new id ≡ slot old id
+  pub no_more : (id : ℕ) → is_firm (slot new id) ≡ true → slot new id ≡ slot old id
+  pub implied : (f : Assignment) → StoreTrue old f → StoreTrue new f
+
+-- What a search keeps, whatever it answers.
+pub record Keeps (old new : Core) : Type 0 where
+  pub learns : Learns old.store new.store
+  pub rooted : Rooted new.store new.trail.steps
+  pub within : StoreWithin old.trail.declared new.store
+  pub declared : new.trail.declared ≡ old.trail.declared
+  pub size : length new.model.items ≡ length old.model.items
+
+-- each of the first n variables has a value
+abbrev pub AllValued : ℕ → List Step → Type 0
+AllValued n t = (v : ℕ) → 0 < v → v ≤ n → IsSome (value_on t (pos_lit v))
+
+-- the model gives the variables the values that they have on the trail, and is false elsewhere
+abbrev pub Shows : List Bool → List Step → Type 0
+Shows m t = (v : ℕ) → values m v ≡ true_on t (pos_lit v)
+
+-- The core has a model of the firm clauses and the assumptions: the values of the trail.
+pub record HasModel (assumptions : List ℕ) (old new : Core) : Type 0 where
+  pub model : IsModel (FirmTrue old.store) assumptions (length old.model.items) new.model.items
+  pub valued : AllValued new.trail.declared new.trail.steps
+  pub shown : Shows new.model.items new.trail.steps
+
+-- so many conflicts were counted, which is the budget and a bound
+pub record IsSpent (n : ℕ) (t : Counted) : Type 0 where
+  pub counted : n ≡ t.count
+  pub stated : n ≡ t.budget
+  pub bound : n < 2 ^ 62
+  pub spent : t.is_spent ≡ true
+
+-- what is found
+abbrev pub FoundIs : List ℕ → Core → Core → Found → Type 0
+FoundIs assumptions old new found.Sat = HasModel assumptions old new
+FoundIs assumptions old new (found.Unsat core) = IsCore (StoreTrue old.store) assumptions core
+FoundIs assumptions old new (found.Spent (Conflicts n)) = IsSpent n new.tally

@@ -1,0 +1,47 @@
+-- Turns of a search.
+use Rattle.std.specs.Prelude.{◌≡◌, ◌⊎◌, ◌<◌, ◌≤◌, ℕ, true, false, List, length, take, None, IsSome}
+use Rattle.sat_terms.specs.Literal.{has, pos_lit}
+use Rattle.trail_state.specs.declared.trail.Step.{Step}
+use Rattle.trail_state.specs.declared.reason.Reason.TheVariants.{Decision}
+use Rattle.trail_state.specs.Trail.{step, true_on, value_on}
+use Rattle.trail_state.specs.Rank.{rank}
+use Rattle.search_engine.specs.declared.core.Core.{Core}
+use Rattle.search_engine.specs.declared.choice.Cursor.{Cursor}
+use Rattle.search_engine.specs.declared.conflict.Turn.{Turn}
+use Rattle.search_engine.specs.declared.conflict.Turn.TheVariants.{Goes, Ends}
+use Rattle.search_engine.specs.Searching.{IsReady, FoundIs}
+
+-- all of the literals are true on the trail
+abbrev pub AllOn : List Step → List ℕ → Type 0
+AllOn t lits = (l : ℕ) → has lits l ≡ true → true_on t l ≡ true
+
+-- each decision is an assumption, or all assumptions are true before it
+abbrev pub AssumesFirst : List ℕ → List Step → Type 0
+AssumesFirst assumptions t =
+    (i : ℕ) → i < length t → (step t i).reason ≡ Decision → (has assumptions (step t i).lit ≡ true) ⊎ AllOn (take i t) assumptions
+
+-- What holds between two turns of a search under these assumptions.
+pub record Stands (assumptions : List ℕ) (c : Core) : Type 0 where
+  pub ready : IsReady assumptions c
+  pub first : AssumesFirst assumptions c.trail.steps
+  pub unspent : c.tally.is_spent ≡ false
+  pub settled : c.tally.owes ≡ None
+
+-- The rank of a trail has risen, over however many places it is counted.
+pub record Rises (old new : List Step) : Type 0 where
+  pub rises : (n : ℕ) → length new ≤ n → rank n old < rank n new
+
+-- A turn of a search goes on: the rank of the trail has risen.
+pub record Next (assumptions : List ℕ) (old new : Core) : Type 0 where
+  pub stands : Stands assumptions new
+  pub rises : Rises old.trail.steps new.trail.steps
+
+-- the assumptions before the cursor are true, and the variables below it have values
+pub record Passed (assumptions : List ℕ) (t : List Step) (cursor : Cursor) : Type 0 where
+  pub assumed : AllOn t (take cursor.assumption assumptions)
+  pub valued : (v : ℕ) → 0 < v → v < cursor.var → IsSome (value_on t (pos_lit v))
+
+-- what a turn leads to
+abbrev pub TurnIs : List ℕ → Core → Core → Turn → Type 0
+TurnIs assumptions old new Goes = Next assumptions old new
+TurnIs assumptions old new (Ends found) = FoundIs assumptions old new found
