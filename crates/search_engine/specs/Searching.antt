@@ -9,10 +9,10 @@ use Rattle.trail_state.specs.Trail.{true_on, value_on}
 use Rattle.rooted_trails.specs.Rooted.{Rooted}
 use Rattle.watch_lists.specs.Propagation.{follows}
 use Rattle.conflict_analysis.specs.Counting.{Counted}
-use Rattle.search_engine.specs.declared.core.Core.{Core}
-use Rattle.search_engine.specs.declared.core.Found.{Found}
-use Rattle.search_engine.specs.declared.core.Found.TheVariants as found
-use Rattle.search_engine.specs.declared.core.Spent.TheVariants.{Conflicts}
+use Rattle.search_engine.specs.declared.state.Core.{Core}
+use Rattle.search_engine.specs.declared.state.Found.{Found}
+use Rattle.search_engine.specs.declared.state.Found.TheVariants as found
+use Rattle.search_engine.specs.declared.state.Spent.TheVariants.{Conflicts}
 
 -- every variable of a live clause is among the first n
 abbrev pub StoreWithin : ℕ → List (Option Stored) → Type 0

@@ -5,7 +5,7 @@ use Rattle.trail_state.specs.declared.trail.Step.{Step}
 use Rattle.trail_state.specs.declared.reason.Reason.TheVariants.{Decision}
 use Rattle.trail_state.specs.Trail.{step, true_on, value_on}
 use Rattle.trail_state.specs.Rank.{rank}
-use Rattle.search_engine.specs.declared.core.Core.{Core}
+use Rattle.search_engine.specs.declared.state.Core.{Core}
 use Rattle.search_engine.specs.declared.choice.Cursor.{Cursor}
 use Rattle.search_engine.specs.declared.conflict.Turn.{Turn}
 use Rattle.search_engine.specs.declared.conflict.Turn.TheVariants.{Goes, Ends}

@@ -1,5 +1,5 @@
 //! Turns that begin with nothing left to propagate: an assumption, a decision, or a model.
-ghost use Rattle.std.specs.Prelude.{◌≡◌, ◌<◌, ◌≤◌, true, false, length, None, Some, IfOk, IfSome, IfNone};
+ghost use Rattle.std.specs.Prelude.{◌≡◌, ◌<◌, ◌≤◌, ℕ, true, false, length, None, IsSome, IfOk, IfSome, IfNone};
 ghost use Rattle.sat_terms.specs.Literal.{has, pos_lit, var_of};
 ghost use Rattle.trail_state.specs.Trail.{true_on, value_on};
 ghost use Rattle.watch_lists.specs.Propagation.{AllQuiet};
@@ -7,7 +7,7 @@ ghost use Rattle.search_engine.specs.Searching.{Keeps, AllValued, Shows};
 ghost use Rattle.search_engine.specs.Turns.{AllOn, Stands, Passed, TurnIs};
 
 use crate::conflict::Turn;
-use crate::core::{Core, Found};
+use crate::state::{Core, Found};
 use assumption_core::cores::{CoreStart, core_of};
 use sat_model::literal::{Lit, Var};
 use sat_model::memory::Memory;

@@ -1,5 +1,5 @@
 //! Turns that begin with a false clause.
-ghost use Rattle.std.specs.Prelude.{◌≡◌, ◌<◌, IfOk, OnOk, IsSome, Some};
+ghost use Rattle.std.specs.Prelude.{◌≡◌, ◌<◌, false, IfOk, OnOk, IsSome};
 ghost use Rattle.sat_terms.specs.Normal.{IsNormal};
 ghost use Rattle.redundancy.specs.Redundancy.{Implies};
 ghost use Rattle.clause_store.specs.Stored.{slot, slot_lits, StoreTrue};
@@ -8,7 +8,7 @@ ghost use Rattle.conflict_analysis.specs.Learning.{Owes};
 ghost use Rattle.search_engine.specs.Searching.{IsReady, Keeps};
 ghost use Rattle.search_engine.specs.Turns.{AssumesFirst, Stands, Next, TurnIs};
 
-use crate::core::{Core, Found, Spent};
+use crate::state::{Core, Found, Spent};
 use clause_store::stored::Keep;
 use conflict_analysis::analysis::{AnalyzeStop, Learned, analyze};
 use conflict_analysis::levels::highest;

@@ -3,8 +3,6 @@
 
 mod choice;
 mod conflict;
-pub mod core;
 mod ready;
 pub mod search;
-#[cfg(test)]
-mod tests;
+pub mod state;

@@ -1,10 +1,15 @@
 //! A core before and after a search.
-ghost use Rattle.std.specs.Prelude.{◌≡◌, ◌≤◌, ℕ, List, OnOk, length};
+ghost use Rattle.std.specs.Prelude.{◌≡◌, ◌≤◌, ◌||◌, ℕ, List, true, false, length, OnOk, IsSome, IsTrue};
+ghost use Rattle.sat_terms.specs.Literal.{has};
 ghost use Rattle.sat_terms.specs.Answer.{Within};
+ghost use Rattle.clause_store.specs.Stored.{slot};
+ghost use Rattle.clause_store.specs.Listing.{times};
+ghost use Rattle.trail_state.specs.Trail.{Trace};
 ghost use Rattle.rooted_trails.specs.Rooted.{Rooted};
-ghost use Rattle.clause_store.specs.Stored.{Stored};
+ghost use Rattle.watch_lists.specs.Propagation.{follows};
+ghost use Rattle.search_engine.specs.Searching.{StoreWithin};
 
-use crate::core::Core;
+use crate::state::Core;
 use clause_store::store::Store;
 use sat_model::lists::ClauseId;
 use sat_model::literal::Var;
@@ -12,8 +17,15 @@ use sat_model::memory::Memory;
 use std::alloc::Global;
 use watch_lists::watches::Watches;
 
-// Attaches clauses of the store.
+// Attaches live clauses that are not attached, each once.
 fn attach_all(watches: &mut Watches, store: &Store, ids: &[ClauseId]) -> Result<(), Memory>
+    requires once { (id : ℕ) → times ids.now id ≤ 1 }
+    requires live { (id : ℕ) → has ids.now id ≡ true → IsSome (slot store.now id) }
+    requires fresh { (id : ℕ) → has ids.now id ≡ true → has watches.old.attached id ≡ false }
+    requires within { StoreWithin watches.old.declared store.now }
+    ensures attached { OnOk result ((id : ℕ) → has watches.new.attached id ≡ (has watches.old.attached id || has ids.now id)) }
+    ensures declared { watches.new.declared ≡ watches.old.declared }
+    ensures following { (t : Trace) → IsTrue (follows watches.old store.now t) → IsTrue (follows watches.new store.now t) }
 {
     for id in ids {
         watches.attach(store, *id)?;
@@ -22,7 +34,7 @@ fn attach_all(watches: &mut Watches, store: &Store, ids: &[ClauseId]) -> Result<
 }
 
 impl Core {
-    ghost use Rattle.search_engine.specs.Searching.{IsReady, StoreWithin};
+    ghost use Rattle.search_engine.specs.Searching.{IsReady};
 
     /// Makes the core ready to search: declares the variables up to `vars`, attaches every live clause and no other, and gives
     /// the model so many values. The variables of the clauses must be among these, and no more may be declared. After `Memory`

@@ -5,7 +5,7 @@ ghost use Rattle.search_engine.specs.Turns.{Stands, Passed, TurnIs};
 
 use crate::choice::{Cursor, choose};
 use crate::conflict::{Turn, resolve};
-use crate::core::{Budget, Core, Found};
+use crate::state::{Budget, Core, Found};
 use sat_model::literal::Lit;
 use sat_model::memory::Memory;
 use std::alloc::Global;
