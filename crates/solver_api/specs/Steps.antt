@@ -12,10 +12,11 @@ use Rattle.solver_api.specs.declared.calls.Call.TheVariants.{Add, Assume, Solve}
 use Rattle.solver_api.specs.declared.calls.Reply.{Reply}
 use Rattle.solver_api.specs.declared.calls.Reply.TheVariants.{Done, Solved}
 use Rattle.solver_api.specs.declared.calls.Outcome.{Outcome}
-use Rattle.solver_api.specs.declared.calls.Outcome.TheVariants.{Sat, Unsat}
+use Rattle.solver_api.specs.declared.calls.Outcome.TheVariants.{Sat, Unsat, Unknown}
 use Rattle.solver_api.specs.declared.calls.Refusal.{Refusal}
 use Rattle.solver_api.specs.declared.calls.Refusal.TheVariants as refusals
 use Rattle.solver_api.specs.declared.solver.Solver.{Solver}
+use Rattle.search_engine.specs.declared.state.Spent.TheVariants.{Conflicts}
 use Rattle.solver_api.specs.Given.{GivenTrue}
 
 -- what a solver shows
@@ -42,6 +43,12 @@ state s = record { given = s.given; pending = s.pending; queried = s.queried; ta
 abbrev pub unused : State
 unused = record { given = []; pending = []; queried = []; taken = 0; settled = false; greatest = 0; mode = modes.Input }
 
+-- the numbers of a call are in range
+abbrev pub InRange : Call → Type 0
+InRange (Add lits) = Unit {0}
+InRange (Assume lit) = Unit {0}
+InRange (Solve budget limit) = (budget.conflicts ≤ 2 ^ 62) × (budget.callbacks ≤ 2 ^ 62) × (limit ≤ 2 ^ 62)
+
 -- what an accepted call does and answers
 abbrev pub Accepted : State → Call → Reply → State → Type 0
 Accepted old (Add lits) Done new = (old.taken + length lits ≤ 2 ^ 27) × (new ≡ record old {
@@ -57,10 +64,12 @@ Accepted old (Assume lit) Done new = (old.taken + 1 ≤ 2 ^ 27) × (new ≡ reco
   greatest = max old.greatest (var_of lit);
   mode = modes.Input;
 })
-Accepted old Solve (Solved Sat) new = (m : List Bool) × IsModel (GivenTrue old.given) old.pending old.greatest m × (old.settled ≡ false)
+Accepted old (Solve budget limit) (Solved Sat) new = (m : List Bool) × IsModel (GivenTrue old.given) old.pending old.greatest m × (old.settled ≡ false)
     × (new ≡ record old { pending = []; queried = old.pending; mode = modes.Sat m })
-Accepted old Solve (Solved Unsat) new = (core : List ℕ) × IsCore (GivenTrue old.given) old.pending core × (old.settled ≡ true → core ≡ [])
+Accepted old (Solve budget limit) (Solved Unsat) new = (core : List ℕ) × IsCore (GivenTrue old.given) old.pending core × (old.settled ≡ true → core ≡ [])
     × (new ≡ record old { pending = []; queried = old.pending; settled = old.settled || (length core == 0); mode = modes.Unsat core })
+Accepted old (Solve budget limit) (Solved (Unknown (Conflicts n))) new = (n ≡ budget.conflicts) × (n < 2 ^ 62) × (old.settled ≡ false)
+    × (new ≡ record old { pending = []; queried = old.pending; mode = modes.Input })
 Accepted old call reply new = ⊥
 
 -- what a refused call leaves, and when a refusal comes
@@ -69,7 +78,7 @@ Refused old (Add lits) (refusals.TooManyLiterals count) new = (count ≡ old.tak
 Refused old (Assume lit) (refusals.TooManyLiterals count) new = (count ≡ old.taken + 1) × (2 ^ 27 < count) × (new ≡ old)
 Refused old (Add lits) refusals.Memory new = (old.taken + length lits ≤ 2 ^ 27) × (new ≡ record old { mode = modes.Input })
 Refused old (Assume lit) refusals.Memory new = (old.taken + 1 ≤ 2 ^ 27) × (new ≡ record old { mode = modes.Input })
-Refused old Solve refusals.Memory new = new ≡ record old { pending = []; mode = modes.Input }
+Refused old (Solve budget limit) refusals.Memory new = new ≡ record old { pending = []; mode = modes.Input }
 Refused old call why new = ⊥
 
 -- One call of a solver: the state before it, the call, its answer, and the state after it.

@@ -8,6 +8,8 @@ use sat_model::literal::Lit;
 use sat_model::memory::Memory;
 use thiserror::Error;
 
+pub use search_engine::state::{Budget, Spent};
+
 /// A call that changes a solver.
 #[derive(Drop)]
 pub enum Call {
@@ -15,8 +17,8 @@ pub enum Call {
     Add(Lits),
     /// The literal is assumed for the next solve.
     Assume(Lit),
-    /// A model or a core is looked for.
-    Solve,
+    /// A model or a core is looked for, within a budget and a step limit.
+    Solve(Budget, u64),
 }
 
 /// What a call answers that was not refused.
@@ -35,6 +37,8 @@ pub enum Outcome {
     Sat,
     /// There is none.
     Unsat,
+    /// The budget was used up before one was found, or was shown not to be there.
+    Unknown(Spent),
 }
 
 /// Why a call is refused.

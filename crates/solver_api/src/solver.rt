@@ -1,10 +1,10 @@
 //! The solver.
-ghost use Rattle.std.specs.Prelude.{◌≡◌, ◌≤◌, ℕ, List, [], Bool, true, All, IfOk, IfErr, Some, None, length};
+ghost use Rattle.std.specs.Prelude.{◌≡◌, ◌≤◌, ◌^◌, ℕ, List, [], Bool, true, All, IfOk, IfErr, Some, None, length};
 ghost use Rattle.sat_terms.specs.Answer.{IsModel, NoModel};
 ghost use Rattle.solver_api.specs.Given.{GivenTrue, IsClause};
 ghost use Rattle.solver_api.specs.Standing.{Stands};
 
-use crate::calls::{Call, Outcome, Refusal, Reply};
+use crate::calls::{Budget, Call, Outcome, Refusal, Reply};
 use crate::find::{Found, find};
 use crate::givens::Givens;
 use crate::literals::{greatest_of, settles, stands_in};
@@ -50,7 +50,7 @@ impl Drop for Solver {
 
 impl Solver {
     ghost use Rattle.solver_api.specs.declared.calls.Call.TheVariants as calls;
-    ghost use Rattle.solver_api.specs.Steps.{Step, state, unused, done, solved, model_of, core_of, val_of, failed_of};
+    ghost use Rattle.solver_api.specs.Steps.{Step, InRange, state, unused, done, solved, model_of, core_of, val_of, failed_of};
 
     /// A solver that was given nothing. It keeps the allocator.
     pub fn new(alloc: Global) -> Result<Solver, Memory>
@@ -107,11 +107,17 @@ impl Solver {
 
     /// Looks for a model of what was given and of the pending assumptions. `Sat` shows the model, and `Unsat` shows a core: some of
     /// the assumptions, none twice, that no model of what was given makes true. An empty core says that what was given has no model,
-    /// and it settles the solver: every later query is `Unsat` with the empty core at once.
+    /// and it settles the solver: every later query is `Unsat` with the empty core at once. `Unknown` says that the budget of
+    /// conflicts, which is below 2^62, was used up before; no answer is shown then. Whatever is answered, the pending assumptions
+    /// are dropped.
     ///
-    /// The one refusal is `Memory`: no answer is shown, and the pending assumptions are dropped.
-    pub fn solve(&mut self) -> Result<Outcome, Refusal>
-        ensures { Step (state self.old) calls.Solve (solved result) (state self.new) }
+    /// The numbers are at most 2^62. A budget of 2^62 is none. `limit` bounds the steps of each pass of simplification; no pass
+    /// runs yet, so it has no effect, and nor has the budget of callbacks. The one refusal is `Memory`: no answer is shown.
+    pub fn solve(&mut self, budget: Budget, limit: u64) -> Result<Outcome, Refusal>
+        requires conflicts { budget.conflicts ≤ 2 ^ 62 }
+        requires callbacks { budget.callbacks ≤ 2 ^ 62 }
+        requires limit { limit ≤ 2 ^ 62 }
+        ensures { Step (state self.old) (calls.Solve budget limit) (solved result) (state self.new) }
     {
         self.mode = Mode::Input;
         let pending = mem::replace(&mut self.pending, Lits::new(self.alloc));
@@ -136,8 +142,9 @@ impl Solver {
         }
     }
 
-    /// Does the named call: `add`, `assume` or `solve`. Its refusals are those of that call.
+    /// Does the named call: `add`, `assume` or `solve`. Its condition and its refusals are those of that call.
     pub fn step(&mut self, call: &Call) -> Result<Reply, Refusal>
+        requires { InRange call.now }
         ensures { Step (state self.old) call.now result (state self.new) }
     {
         match call {
@@ -149,7 +156,7 @@ impl Solver {
                 Ok(()) => Ok(Reply::Done),
                 Err(why) => Err(why),
             },
-            Call::Solve => match self.solve() {
+            Call::Solve(budget, limit) => match self.solve(*budget, *limit) {
                 Ok(outcome) => Ok(Reply::Solved(outcome)),
                 Err(why) => Err(why),
             },

@@ -1,6 +1,6 @@
 //! Tests of a solver.
 
-use crate::calls::{Call, Outcome, Refusal};
+use crate::calls::{Budget, Call, Outcome, Refusal};
 use crate::givens::GivenPart;
 use crate::solver::Solver;
 use sat_model::constraint::Kind;
@@ -9,6 +9,12 @@ use sat_model::literal::Lit;
 use std::alloc::Global;
 use std::process::Abort;
 use std::test::Fail;
+
+// More than these tests use.
+const AMPLE: Budget = Budget {
+    conflicts: 1_000_000,
+    callbacks: 1_000_000,
+};
 
 // The literal that is written as this number.
 fn lit(rt: &impl Abort, number: i32) -> Lit {
@@ -35,9 +41,10 @@ fn ask(
     for number in numbers {
         solver.assume(lit(rt, *number))?;
     }
-    match solver.solve()? {
+    match solver.solve(AMPLE, 1000)? {
         Outcome::Sat => model_text(alloc, solver.model()?),
         Outcome::Unsat => core_text(alloc, solver.core()?),
+        Outcome::Unknown(_) => Ok(String::from_str(alloc, "unknown")?),
     }
 }
 
@@ -126,7 +133,7 @@ fn keeps_its_lists(rt: HostRuntime) -> Result<(), Fail> {
     };
     assert!(rt; size == 1 && !parts.is_empty());
     let assumed = solver.step(&Call::Assume(lit(&rt, 1)));
-    let solved = solver.step(&Call::Solve);
+    let solved = solver.step(&Call::Solve(AMPLE, 1000));
     let lists = (
         solver.given().len(),
         solver.queried().len(),
