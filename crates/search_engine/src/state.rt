@@ -18,6 +18,12 @@ pub struct Budget {
     pub callbacks: u64,
 }
 
+/// The budget that bounds nothing.
+pub const NO_BUDGET: Budget = Budget {
+    conflicts: 4_611_686_018_427_387_904,
+    callbacks: 4_611_686_018_427_387_904,
+};
+
 /// What was used up when a search stopped.
 #[derive(Clone, Copy, Debug, PartialEq, Eq)]
 pub enum Spent {

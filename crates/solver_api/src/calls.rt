@@ -8,7 +8,7 @@ use sat_model::literal::Lit;
 use sat_model::memory::Memory;
 use thiserror::Error;
 
-pub use search_engine::state::{Budget, Spent};
+pub use search_engine::state::{Budget, NO_BUDGET, Spent};
 
 /// A call that changes a solver.
 #[derive(Drop)]
