@@ -1,8 +1,8 @@
 -- Laws of rooted trails.
-use Rattle.std.proofs.Common.{◌≡◌, ◌≢◌, ℕ, ◌<◌, true, List, [], ◌∷◌, ◌++◌, length, inl, inr, refl, sym, ap, ◌∙◌, subst, arith, Option}
+use Rattle.std.proofs.Common.{◌≡◌, ◌≢◌, ℕ, ◌<◌, ◌≤◌, true, List, [], ◌∷◌, ◌++◌, length, take, inl, inr, refl, sym, ap, ◌∙◌, subst, arith, Option}
 use Rattle.std.specs.Prelude.{IsSome}
 use Rattle.std.proofs.lemmas.Bool.{false≢true, eqb-true}
-use Rattle.std.proofs.lemmas.List.{take-append-le, take_at}
+use Rattle.std.proofs.lemmas.List.{take-append-le, take_at, take-take, length-take-le}
 use Rattle.std.proofs.Math.Bool.{or-false}
 use Rattle.sat_terms.specs.Literal.{has, neg}
 use Rattle.sat_terms.specs.Truth.{Assignment, lit_true}
@@ -10,9 +10,10 @@ use Rattle.clause_store.specs.Stored.{Stored, StoreTrue, Fills, slot, slot_lits}
 use Rattle.trail_state.specs.declared.trail.Step.{Step}
 use Rattle.trail_state.specs.declared.reason.Reason.{Reason}
 use Rattle.trail_state.specs.declared.reason.Reason.TheVariants.{Decision, Clause, Theory}
-use Rattle.trail_state.specs.Trail.{step, IsTrail}
+use Rattle.trail_state.specs.Trail.{Trace, step, IsTrail, IsBack}
 use Rattle.trail_state.specs.Clauses.{IsReason, IsUnit}
 use Rattle.trail_state.proofs.Changes.{step_old, step_new, old_or_new}
+use Rattle.trail_state.proofs.Backing.{step_take}
 use Rattle.trail_state.proofs.Levels.{decided}
 use Rattle.rooted_trails.specs.Rooted.{RootedBy, Rooted}
 use Rattle.rooted_trails.specs.Marks.{RootFollows}
@@ -104,3 +105,28 @@ rooted_filled old new id c fills t rooted i in' =
       | inl r ↦ inl (reason_filled old new id c fills t i (step t i).reason r)
       | inr u ↦ inr (u.0, (u.1.0, rw (live_filled old new id c fills u.1.0 u.1.1) u.1.1, rw (live_filled old new id c fills u.1.0 u.1.1) u.1.2))
     ]
+
+-- reasons on a front of the trail
+reason_front : (s : List (Option Stored)) (t : List Step) (k i : ℕ) (r : Reason) → i < k → RootedBy s t i r → RootedBy s (take k t) i r
+reason_front s t k i Decision lt h = tt
+reason_front s t k i (Clause id) lt h = (
+  h.0,
+  record {
+    holds = rw (step_take t k i lt) h.1.holds;
+    others = λ l m n. rw (take-take i k t (omega arith)) (h.1.others l m (rw (step_take t k i lt) at n));
+  },
+)
+reason_front s t k i Theory lt h = absurd h
+
+pub rooted_front : (s : List (Option Stored)) (t : List Step) (k : ℕ) → k ≤ length t → Rooted s t → Rooted s (take k t)
+rooted_front s t k le rooted i in' =
+    let size = length-take-le k t le in
+    let lt : i < k = omega arith in
+    elim (rooted i (omega arith)) [
+      | inl r ↦ inl (rw (step_take t k i lt) (reason_front s t k i (step t i).reason lt r))
+      | inr u ↦ inr (rw (step_take t k i lt) u)
+    ]
+
+-- a trail that went back is rooted as before
+pub rooted_back : (s : List (Option Stored)) (old new : Trace) (level : ℕ) → IsBack old new level → Rooted s old.steps → Rooted s new.steps
+rooted_back s old new level back rooted = subst (λ t. Rooted s t) (sym back.steps) (rooted_front s old.steps back.kept back.within rooted)
