@@ -2,6 +2,7 @@ pub mod Marking
 pub mod Fronts
 pub mod Walks
 pub mod Highests
+pub mod Returns
 pub mod Glues
 pub mod Learns
 pub mod Normals

@@ -1,5 +1,5 @@
 -- Turns of a search.
-use Rattle.std.specs.Prelude.{◌≡◌, ◌⊎◌, ◌<◌, ◌≤◌, ℕ, true, false, List, length, take, None, IsSome}
+use Rattle.std.specs.Prelude.{◌≡◌, ◌≢◌, ◌⊎◌, ◌<◌, ◌≤◌, ℕ, true, false, List, [], ◌∷◌, ◌++◌, length, take, None, IsSome}
 use Rattle.sat_terms.specs.Literal.{has, pos_lit}
 use Rattle.trail_state.specs.declared.trail.Step.{Step}
 use Rattle.trail_state.specs.declared.reason.Reason.TheVariants.{Decision}
@@ -30,6 +30,15 @@ pub record Stands (assumptions : List ℕ) (c : Core) : Type 0 where
 -- The rank of a trail has risen, over however many places it is counted.
 pub record Rises (old new : List Step) : Type 0 where
   pub rises : (n : ℕ) → length new ≤ n → rank n old < rank n new
+
+-- A decision of the old trail and all behind it gave way to one implied literal.
+pub record Jumped (old new : List Step) : Type 0 where
+  pub kept : ℕ
+  pub within : kept < length old
+  pub decided : (step old kept).reason ≡ Decision
+  pub asserted : Step
+  pub implied : asserted.reason ≢ Decision
+  pub steps : new ≡ take kept old ++ asserted ∷ []
 
 -- A turn of a search goes on: the rank of the trail has risen.
 pub record Next (assumptions : List ℕ) (old new : Core) : Type 0 where

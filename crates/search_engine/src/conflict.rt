@@ -6,7 +6,7 @@ ghost use Rattle.clause_store.specs.Stored.{slot, slot_lits, StoreTrue};
 ghost use Rattle.trail_state.specs.Clauses.{FalseOn};
 ghost use Rattle.conflict_analysis.specs.Learning.{Owes};
 ghost use Rattle.search_engine.specs.Searching.{IsReady, Keeps};
-ghost use Rattle.search_engine.specs.Turns.{AssumesFirst, Stands, Next, TurnIs};
+ghost use Rattle.search_engine.specs.Turns.{AssumesFirst, Stands, Next, Jumped, TurnIs};
 
 use crate::state::{Core, Found, Spent};
 use clause_store::stored::Keep;
@@ -43,12 +43,14 @@ pub(crate) fn resolve(
     ensures budget { core.new.tally.budget ≡ core.old.tally.budget }
 {
     let _ = assumptions;
+    core.trail.has_shape();
     let top = highest(&core.trail, core.store.get(conflict));
     if top == 0 {
         return Ok(Turn::Ends(Found::Unsat(Lits::new(alloc))));
     }
     core.trail.back_to(top);
     core.watches.cut(&core.trail);
+    core.trail.has_shape();
     match analyze(alloc, &core.store, &core.trail, &mut core.tally, conflict) {
         Ok(learned) => {
             learn(core, assumptions, &learned)?;
@@ -69,14 +71,19 @@ fn learn(core: &mut Core, assumptions: &[Lit], learned: &Learned) -> Result<(), 
     requires owes { Owes core.old.tally.owes core.old.trail.steps core.old.trail.level learned.now.lits learned.now.back_level }
     requires unspent { core.old.tally.is_spent ≡ false }
     ensures next { OnOk result (Next assumptions.now core.old core.new) }
+    ensures jumped { OnOk result (Jumped core.old.trail.steps core.new.trail.steps) }
     ensures keeps { Keeps core.old core.new }
     ensures budget { core.new.tally.budget ≡ core.old.tally.budget }
 {
     let _ = assumptions;
+    core.trail.has_shape();
+    core.trail.has_room();
+    core.watches.goes_on_following();
     let id = core.store.add(learned.lits.as_slice(), Keep::Redundant, learned.glue)?;
     core.watches.attach(&core.store, id)?;
     core.trail.back_to(learned.back_level);
     core.watches.cut(&core.trail);
+    core.watches.goes_on_following();
     let Some(lit) = core.tally.owes() else {
         unreachable!()
     };
