@@ -1,2 +1,4 @@
 pub mod Jumps
 pub mod Conflicts
+pub mod Values
+pub mod Choices

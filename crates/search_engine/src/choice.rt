@@ -63,6 +63,7 @@ fn next_free(trail: &Trail, cursor: &mut Cursor) -> Option<Lit>
     ensures found { IfSome result (λ l. (value_on trail.now.steps l ≡ None) × (var_of l ≤ trail.now.declared)) }
     ensures none { IfNone result (AllValued trail.now.declared trail.now.steps) }
 {
+    trail.has_room();
     while cursor.var <= trail.declared() {
         if let Some(var) = Var::new(cursor.var) {
             let lit = var.positive();
@@ -81,6 +82,7 @@ fn show(trail: &Trail, model: &mut [bool])
     ensures size { length model.new ≡ length model.old }
     ensures shown { Shows model.new trail.now.steps }
 {
+    trail.has_room();
     model.fill(false);
     for lit in trail.lits() {
         if lit.is_positive() {
@@ -98,6 +100,7 @@ fn assume(alloc: Global, core: &mut Core, assumptions: &[Lit], lit: Lit) -> Resu
     ensures keeps { Keeps core.old core.new }
     ensures tally { core.new.tally ≡ core.old.tally }
 {
+    core.watches.goes_on_following();
     if core.trail.value(lit).is_none() {
         core.trail.decide(lit);
         return Ok(Turn::Goes);
@@ -119,6 +122,8 @@ fn decide(core: &mut Core, assumptions: &[Lit], cursor: &mut Cursor) -> Turn
     ensures passed { Passed assumptions.now core.new.trail.steps cursor.new }
 {
     let _ = assumptions;
+    core.trail.has_shape();
+    core.watches.goes_on_following();
     match next_free(&core.trail, cursor) {
         Some(lit) => {
             core.trail.decide(lit);
