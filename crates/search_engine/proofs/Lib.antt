@@ -2,3 +2,4 @@ pub mod Jumps
 pub mod Conflicts
 pub mod Values
 pub mod Choices
+pub mod Looping

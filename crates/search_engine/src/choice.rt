@@ -98,6 +98,7 @@ fn assume(alloc: Global, core: &mut Core, assumptions: &[Lit], lit: Lit) -> Resu
     requires untrue { true_on core.old.trail.steps lit ≡ false }
     ensures turn { IfOk result (TurnIs assumptions.now core.old core.new) }
     ensures keeps { Keeps core.old core.new }
+    ensures passed { (cursor : Cursor) → Passed assumptions.now core.old.trail.steps cursor → Passed assumptions.now core.new.trail.steps cursor }
     ensures tally { core.new.tally ≡ core.old.tally }
 {
     core.watches.goes_on_following();
