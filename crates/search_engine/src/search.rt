@@ -55,6 +55,7 @@ pub fn search(
     ensures keeps { Keeps core.old core.new }
     ensures budget { core.new.tally.budget ≡ budget.conflicts }
 {
+    core.trail.has_shape();
     core.tally.start(budget.conflicts);
     let mut cursor = Cursor::start();
     loop {

@@ -1,24 +1,35 @@
-use Rattle.std.proofs.Common.{rules, ◌≡◌, ◌≤◌, ◌^◌, IfOk, ℕ, ◌+◌, ◌-◌, ◌*◌, ◌<◌, length, ◌/◌, ◌%◌, Bool, true, false, nat_eq, nat_lt, List, [], ◌∷◌, ◌++◌, slice_index_or, slice_set, bit_and, bit_or, Fits, w8, w32, w64, Bor, MutBor}
-use Rattle.search_engine.specs.Searching.{IsReady, Keeps, FoundIs}
+use Rattle.std.proofs.Common.{◌≡◌, refl}
 use Rattle.search_engine.specs.Turns.{Stands, Passed, TurnIs}
+use Rattle.search_engine.proofs.Looping.{Propagates, ok_more, ok_always, propagated_stands, propagated_passed, propagated_turn}
 use Rattle.search_engine.proofs.search.take_turn.Goals as goal
 
--- src/search.rt:30:13
 pub resolve-requires-clause-stands : goal.resolve-requires-clause-stands
-resolve-requires-clause-stands c = ?
+resolve-requires-clause-stands c =
+    let e = c.propagate.ensures in
+    let p : Propagates c.args.core.now (record c.args.core.now { trail = c.propagate.new.trail; watches = c.propagate.new.self }) =
+    record { store = refl; tally = refl; size = refl; attached = e.attached; declared = e.declared; following = e.follows; grown = e.grown } in
+    propagated_stands c.args.assumptions.now c.args.core.now _ p c.requires.stands
 
--- src/search.rt:32:17
 pub choose-requires-clause-stands : goal.choose-requires-clause-stands
-choose-requires-clause-stands c = ?
+choose-requires-clause-stands c =
+    let e = c.propagate.ensures in
+    let p : Propagates c.args.core.now (record c.args.core.now { trail = c.propagate.new.trail; watches = c.propagate.new.self }) =
+    record { store = refl; tally = refl; size = refl; attached = e.attached; declared = e.declared; following = e.follows; grown = e.grown } in
+    propagated_stands c.args.assumptions.now c.args.core.now _ p c.requires.stands
 
--- src/search.rt:14:1
 pub returns-in-Some-clause-turn : goal.returns-in-Some-clause-turn
-returns-in-Some-clause-turn c = ?
+returns-in-Some-clause-turn c =
+    let e = c.propagate.ensures in
+    let p : Propagates c.args.core.now (record c.args.core.now { trail = c.propagate.new.trail; watches = c.propagate.new.self }) =
+    record { store = refl; tally = refl; size = refl; attached = e.attached; declared = e.declared; following = e.follows; grown = e.grown } in
+    ok_more c.resolve.result _ _ (propagated_turn c.args.assumptions.now c.args.core.now _ c.resolve.new.core p c.requires.stands.ready) c.resolve.ensures.turn
 
--- src/search.rt:14:1
 pub returns-in-Some-clause-passed : goal.returns-in-Some-clause-passed
-returns-in-Some-clause-passed c = ?
+returns-in-Some-clause-passed c = ok_always c.resolve.result _ (λ turn. c.start.ensures c.args.assumptions.now c.resolve.new.core.trail.steps)
 
--- src/search.rt:14:1
 pub returns-in-None-clause-turn : goal.returns-in-None-clause-turn
-returns-in-None-clause-turn c = ?
+returns-in-None-clause-turn c =
+    let e = c.propagate.ensures in
+    let p : Propagates c.args.core.now (record c.args.core.now { trail = c.propagate.new.trail; watches = c.propagate.new.self }) =
+    record { store = refl; tally = refl; size = refl; attached = e.attached; declared = e.declared; following = e.follows; grown = e.grown } in
+    ok_more c.choose.result _ _ (propagated_turn c.args.assumptions.now c.args.core.now _ c.choose.new.core p c.requires.stands.ready) c.choose.ensures.turn
