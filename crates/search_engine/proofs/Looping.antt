@@ -189,6 +189,27 @@ first_at_root assumptions t top shape root i in' dec =
     let low = below_top 0 t top shape.levels i in' in
     absurd (omega arith)
 
+-- a core whose count was started anew
+started_ready : (assumptions : List ℕ) (old new : Core) → IsReady assumptions old → new.store ≡ old.store → new.trail ≡ old.trail → new.watches ≡ old.watches → new.model ≡ old.model → IsReady assumptions new
+started_ready assumptions old new ready store trail watches model = record {
+  rooted = rw (store, trail) ready.rooted;
+  attached = rw (watches, store) ready.attached;
+  following = rw (watches, store, trail) ready.following;
+  within = rw (store, trail) ready.within;
+  assumed = rw trail ready.assumed;
+  watched = rw (trail, watches) ready.watched;
+  room = rw (trail, model) ready.room;
+}
+
+pub started_stands : (assumptions : List ℕ) (old new : Core) → IsReady assumptions old → IsTrail old.trail.steps old.trail.level → old.trail.level ≡ 0 → new.store ≡ old.store → new.trail ≡ old.trail → new.watches ≡ old.watches → new.model ≡ old.model
+    → new.tally.is_spent ≡ false → new.tally.owes ≡ None → Stands assumptions new
+started_stands assumptions old new ready shape root store trail watches model unspent settled = record {
+  ready = started_ready assumptions old new ready store trail watches model;
+  first = rw trail (first_at_root assumptions old.trail.steps old.trail.level shape root);
+  unspent = unspent;
+  settled = settled;
+}
+
 -- the measure falls as the rank rises
 pub measure_falls : (n n' : ℕ) (t t' : List Step) → n' ≡ n → length t' ≤ n' → Rises t t' → 3 ^ n' - rank n' t' < 3 ^ n - rank n t
 measure_falls n n' t t' e room up = rw e (let b = rank-bound n t' in let r = up.rises n (rw e at room) in omega arith)

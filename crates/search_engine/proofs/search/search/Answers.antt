@@ -1,44 +1,21 @@
-use Rattle.std.proofs.Common.{rules, ◌≡◌, ◌≤◌, ◌^◌, IfOk, ℕ, ◌+◌, ◌-◌, ◌*◌, ◌<◌, length, ◌/◌, ◌%◌, Bool, true, false, nat_eq, nat_lt, List, [], ◌∷◌, ◌++◌, slice_index_or, slice_set, bit_and, bit_or, Fits, w8, w32, w64, Bor, MutBor}
-use Rattle.search_engine.specs.Searching.{IsReady, Keeps, FoundIs}
-use Rattle.search_engine.specs.Turns.{Stands, Passed, TurnIs}
+use Rattle.std.proofs.Common.{◌≡◌, refl, ap}
+use Rattle.search_engine.proofs.Choices.{keeps_same}
+use Rattle.search_engine.proofs.Looping.{started_stands, found_before, measure_falls}
 use Rattle.search_engine.proofs.search.search.Goals as goal
 
--- src/search.rt:61:5
 pub loop-core-init : goal.loop-core-init
-loop-core-init c = ?
+loop-core-init c = record {
+  stands = started_stands c.args.assumptions.now c.args.core.now _ c.requires.ready c.has_shape.ensures c.requires.root refl refl refl refl (ap (λ t. t.is_spent) c.start.ensures) (ap (λ t. t.owes) c.start.ensures);
+  passed = c.start-cursor.ensures c.args.assumptions.now c.args.core.now.trail.steps;
+  keeps = keeps_same c.args.assumptions.now c.args.core.now _ c.requires.ready refl refl refl;
+  budget = ap (λ t. t.budget) c.start.ensures;
+}
 
--- src/search.rt:62:15
-pub take_turn-requires-clause-stands : goal.take_turn-requires-clause-stands
-take_turn-requires-clause-stands c = ?
-
--- src/search.rt:62:15
-pub take_turn-requires-clause-passed : goal.take_turn-requires-clause-passed
-take_turn-requires-clause-passed c = ?
-
--- src/search.rt:62:15
-pub returns-in_err-take_turn-clause-keeps : goal.returns-in_err-take_turn-clause-keeps
-returns-in_err-take_turn-clause-keeps c = ?
-
--- src/search.rt:62:15
-pub returns-in_err-take_turn-clause-budget : goal.returns-in_err-take_turn-clause-budget
-returns-in_err-take_turn-clause-budget c = ?
-
--- src/search.rt:61:5
 pub loop-core-smaller : goal.loop-core-smaller
-loop-core-smaller c = ?
+loop-core-smaller c =
+    let next = rw c.in-Goes.is at c.in_ok-take_turn.ensures.turn in
+    measure_falls _ _ _ _ c.in_ok-take_turn.ensures.keeps.declared c.has_room.ensures.steps next.rises
 
--- src/search.rt:61:5
-pub loop-core-preserved : goal.loop-core-preserved
-loop-core-preserved c = ?
-
--- src/search.rt:64:34
 pub returns-in-Ends-clause-found : goal.returns-in-Ends-clause-found
-returns-in-Ends-clause-found c = ?
-
--- src/search.rt:64:34
-pub returns-in-Ends-clause-keeps : goal.returns-in-Ends-clause-keeps
-returns-in-Ends-clause-keeps c = ?
-
--- src/search.rt:64:34
-pub returns-in-Ends-clause-budget : goal.returns-in-Ends-clause-budget
-returns-in-Ends-clause-budget c = ?
+returns-in-Ends-clause-found c =
+    found_before c.args.assumptions.now c.args.core.now c.loop-core.core c.take_turn.new.core c.loop-core.invariant.keeps c.in-Ends.found (rw c.in-Ends.is at c.in_ok-take_turn.ensures.turn)
