@@ -3,3 +3,4 @@ pub mod Conflicts
 pub mod Values
 pub mod Choices
 pub mod Looping
+pub mod Readying

@@ -1,5 +1,5 @@
 //! A core before and after a search.
-ghost use Rattle.std.specs.Prelude.{◌≡◌, ◌≤◌, ◌||◌, ℕ, List, true, false, length, OnOk, IsSome, IsTrue};
+ghost use Rattle.std.specs.Prelude.{◌≡◌, ◌≤◌, ◌||◌, ℕ, List, [], true, false, length, OnOk, IsSome, IsTrue};
 ghost use Rattle.sat_terms.specs.Literal.{has};
 ghost use Rattle.sat_terms.specs.Answer.{Within};
 ghost use Rattle.clause_store.specs.Stored.{slot};
@@ -36,6 +36,30 @@ fn attach_all(watches: &mut Watches, store: &Store, ids: &[ClauseId]) -> Result<
 impl Core {
     ghost use Rattle.search_engine.specs.Searching.{IsReady};
 
+    // Declares the variables up to `vars`, and begins with nothing attached and a model of so many values. No more may be declared
+    // before.
+    fn clear(&mut self, alloc: Global, vars: u32) -> Result<(), Memory>
+        requires few { vars ≤ 4194303 }
+        requires declared { self.old.trail.declared ≤ vars }
+        ensures model { OnOk result (length self.new.model.items ≡ vars) }
+        ensures trail { OnOk result (self.new.trail.declared ≡ vars) }
+        ensures declared { self.new.trail.declared ≤ vars }
+        ensures steps { self.new.trail.steps ≡ self.old.trail.steps }
+        ensures level { self.new.trail.level ≡ self.old.trail.level }
+        ensures store { self.new.store ≡ self.old.store }
+        ensures none { OnOk result (self.new.watches.attached ≡ []) }
+        ensures watches { OnOk result (self.new.watches.declared ≡ vars) }
+        ensures following { OnOk result ((t : Trace) → IsTrue (follows self.new.watches self.new.store t)) }
+    {
+        self.model = vec![in alloc; false; vars as usize]?;
+        self.watches = Watches::new(alloc);
+        if let Some(var) = Var::new(vars) {
+            self.trail.declare(var)?;
+            self.watches.declare(var)?;
+        }
+        Ok(())
+    }
+
     /// Makes the core ready to search: declares the variables up to `vars`, attaches every live clause and no other, and gives
     /// the model so many values. The variables of the clauses must be among these, and no more may be declared. After `Memory`
     /// the clauses and the trail's literals are as before, and maybe more variables are declared.
@@ -52,12 +76,7 @@ impl Core {
         ensures level { self.new.trail.level ≡ self.old.trail.level }
         ensures store { self.new.store ≡ self.old.store }
     {
-        self.model = vec![in alloc; false; vars as usize]?;
-        self.watches = Watches::new(alloc);
-        if let Some(var) = Var::new(vars) {
-            self.trail.declare(var)?;
-            self.watches.declare(var)?;
-        }
+        self.clear(alloc, vars)?;
         attach_all(&mut self.watches, &self.store, self.store.firm_ids())?;
         attach_all(&mut self.watches, &self.store, self.store.redundant_ids())
     }
