@@ -15,14 +15,14 @@ use Rattle.reply_text.specs.Text.{replies_text}
 use Rattle.icnf_runner.specs.Good.{parts_of, greatest_in, IsSettled, GoodReplies}
 use Rattle.icnf_runner.specs.Output.{status_after}
 
--- a solver that was told these statements and gave these replies, with so many literals in the statements
-pub record IsTold (s : State) (script : List Statement) (replies : List Reply) (count : ℕ) : Type 0 where
+-- a solver that was told these statements and gave these replies within a budget of conflicts, with so many literals in the statements
+pub record IsTold (budget : ℕ) (s : State) (script : List Statement) (replies : List Reply) (count : ℕ) : Type 0 where
   pub given_is : s.given ≡ parts_of script
   pub none : s.pending ≡ []
   pub greatest_is : s.greatest ≡ greatest_in script
   pub taken_is : s.taken ≡ count
   pub settles : IsSettled script replies → s.settled ≡ true
-  pub good : GoodReplies script replies
+  pub good : GoodReplies budget script replies
 
 -- items before others
 abbrev pub put_items : List Item → Outcome → Outcome
@@ -35,10 +35,10 @@ pub record TakenTo (front : List Item) (now : ReadState) (before after : List �
   pub leads : (others : List (List ℕ)) (tail : List Token) (last : ℕ) → reads (tokens 0 1 (pieces ++ others) ++ tail) start last ≡ put_items front (over now others tail last)
 
 -- how far a run has come: the items that were read, and the replies that were given
-pub record HasCome (s : State) (code : ℕ) (written written' left rest : Option (List ℕ)) (now : ReadState) : Type 0 where
+pub record HasCome (budget : ℕ) (s : State) (code : ℕ) (written written' left rest : Option (List ℕ)) (now : ReadState) : Type 0 where
   pub front : List Item
   pub replies : List Reply
-  pub stands : IsTold s (statements_of front) replies (given now.point)
+  pub stands : IsTold budget s (statements_of front) replies (given now.point)
   pub code_is : code ≡ status_after 0 replies
   pub printed : Appends written written' (replies_text replies)
   pub read : WhereTold left rest (λ before after. text_reads before ≡ put_items front (outcome now after))

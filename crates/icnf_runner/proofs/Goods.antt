@@ -67,11 +67,11 @@ lits_in (Clause c) = c
 lits_in (Query b) = b
 
 -- nothing is good for nothing
-pub good_start : GoodReplies [] []
+pub good_start : {budget : ℕ} → GoodReplies budget [] []
 good_start = record { one_each = refl; good = λ above below a earlier later r cut e n. absurd (not_none above (Query a) below cut) }
 
 -- a clause asks for no reply
-pub good_clause : (script : List Statement) (replies : List Reply) (c : List ℕ) → GoodReplies script replies → GoodReplies (script ++ Clause c ∷ []) replies
+pub good_clause : {budget : ℕ} (script : List Statement) (replies : List Reply) (c : List ℕ) → GoodReplies budget script replies → GoodReplies budget (script ++ Clause c ∷ []) replies
 good_clause script replies c h = record {
   one_each = let n = count_push script (Clause c) in omega (arith, h.one_each, n);
   good = λ above below a earlier later r cut e n.
@@ -85,12 +85,12 @@ good_clause script replies c h = record {
     differ e = cc
 
 -- a query asks for a good one
-pub good_query : (script : List Statement) (replies : List Reply) (a : List ℕ) (r : Reply) → GoodReplies script replies → IsGood script a r → (IsSettled script replies → r ≡ Unsat [])
-    → GoodReplies (script ++ Query a ∷ []) (replies ++ r ∷ [])
-good_query script replies a r h is settles = record {
+pub good_query : {budget : ℕ} (script : List Statement) (replies : List Reply) (a : List ℕ) (r : Reply) → GoodReplies budget script replies → IsGood budget script a r → (IsSettled script replies → r ≡ Unsat [])
+    → GoodReplies budget (script ++ Query a ∷ []) (replies ++ r ∷ [])
+good_query {budget} script replies a r h is settles = record {
   one_each = let n = count_push script (Query a) in let m = length-append replies (r ∷ []) in omega (arith, h.one_each, n, m);
   good = λ above below b earlier later q cut e n.
-      let Fine : Type 0 = IsGood above b q × (IsSettled above earlier → q ≡ Unsat []) in
+      let Fine : Type 0 = IsGood budget above b q × (IsSettled above earlier → q ≡ Unsat []) in
       ⊎_elim
       (λ (l : IsLast script (Query a) above (Query b) below).
       ⊎_elim
@@ -113,10 +113,10 @@ good_query script replies a r h is settles = record {
     same_query e = ap lits_in e
 
     moved : {above : List Statement} {b : List ℕ} {earlier : List Reply} {q : Reply} → script ≡ above → a ≡ b → replies ≡ earlier → r ≡ q
-        → IsGood above b q × (IsSettled above earlier → q ≡ Unsat [])
+        → IsGood budget above b q × (IsSettled above earlier → q ≡ Unsat [])
     moved {above} {b} {earlier} {q} e1 e2 e3 e4 =
-        let P1 : List Statement → Type 0 = λ x. IsGood x b q × (IsSettled x earlier → q ≡ Unsat []) in
-        let P2 : List ℕ → Type 0 = λ x. IsGood script x q × (IsSettled script earlier → q ≡ Unsat []) in
-        let P3 : List Reply → Type 0 = λ x. IsGood script a q × (IsSettled script x → q ≡ Unsat []) in
-        let P4 : Reply → Type 0 = λ x. IsGood script a x × (IsSettled script replies → x ≡ Unsat []) in
+        let P1 : List Statement → Type 0 = λ x. IsGood budget x b q × (IsSettled x earlier → q ≡ Unsat []) in
+        let P2 : List ℕ → Type 0 = λ x. IsGood budget script x q × (IsSettled script earlier → q ≡ Unsat []) in
+        let P3 : List Reply → Type 0 = λ x. IsGood budget script a q × (IsSettled script x → q ≡ Unsat []) in
+        let P4 : Reply → Type 0 = λ x. IsGood budget script a x × (IsSettled script replies → x ≡ Unsat []) in
         subst P1 e1 (subst P2 e2 (subst P3 e3 (subst P4 e4 (is, settles))))

@@ -23,10 +23,10 @@ use Rattle.icnf_reader.specs.declared.item.Item.TheVariants as item
 use Rattle.solver_api.specs.Steps.{State, Step, unused}
 use Rattle.solver_api.specs.declared.calls.Call.TheVariants as calls
 use Rattle.solver_api.specs.declared.calls.Reply.TheVariants as answers
-use Rattle.reply_text.specs.Reply.{Reply, Sat, Unsat, code_of}
+use Rattle.reply_text.specs.Reply.{Reply, Sat, Unsat, Unknown, code_of}
 use Rattle.reply_text.specs.Text.{reply_text, replies_text}
 use Rattle.icnf_runner.specs.Good.{GoodReplies}
-use Rattle.icnf_runner.specs.Output.{status_after, IsAnswer, IsBreak, Answers, Refuses, GoesWrong, Begins, IsCutShort, Prints, PrintsBetween, closing_line}
+use Rattle.icnf_runner.specs.Output.{status_after, IsAnswer, IsBreak, Answers, Refuses, GoesWrong, Begins, IsCutShort, Prints, PrintsBetween, closing_line, no_budget}
 use Rattle.icnf_runner.specs.Session.{IsReplied, IsHalfReplied}
 use Rattle.icnf_runner.proofs.Course.{IsTold, put_items, TakenTo, HasCome}
 use Rattle.icnf_runner.proofs.Goods.{good_start}
@@ -59,9 +59,9 @@ taken_more left rest rest' now new front i stays told next = told_both left rest
 }) told next
 
 -- the start of a run
-pub come_start : (left written : Option (List ℕ)) (s : State) (r : ReadState) → s ≡ unused → r ≡ at_start → HasCome s 0 written written left (rest_of r.words.lines left) r
-come_start left written s r told fresh =
-    let P : ReadState → Type 0 = λ q. HasCome s 0 written written left (rest_of q.words.lines left) q in
+pub come_start : {budget : ℕ} (left written : Option (List ℕ)) (s : State) (r : ReadState) → s ≡ unused → r ≡ at_start → HasCome budget s 0 written written left (rest_of r.words.lines left) r
+come_start {budget} left written s r told fresh =
+    let P : ReadState → Type 0 = λ q. HasCome budget s 0 written written left (rest_of q.words.lines left) q in
     subst P (sym fresh) (record {
       front = [];
       replies = [];
@@ -91,11 +91,11 @@ said_push : (front : List Item) (i : Item) → statements_of (front ++ i ∷ [])
 said_push front i = statements_of-append front (i ∷ [])
 
 -- the header is read
-pub come_header : (s : State) (code : ℕ) (h : Header) (written written' left rest rest' : Option (List ℕ)) (now new : ReadState)
-    → HasCome s code written written' left rest now → WhereTold rest rest' (GivesItem now new (item.Header h)) → WhereTold rest rest' (LeadsOver now new (put_item (item.Header h)))
-    → (now.words.lines.ended ≡ true → new.words.lines.ended ≡ true) → given new.point ≡ given now.point + lits_in (item.Header h) → HasCome s code written written' left rest' new
-come_header s code h written written' left rest rest' now new d next lead stays count =
-    let P : List Statement → ℕ → Type 0 = λ ss n. IsTold s ss d.replies n in
+pub come_header : {budget : ℕ} (s : State) (code : ℕ) (h : Header) (written written' left rest rest' : Option (List ℕ)) (now new : ReadState)
+    → HasCome budget s code written written' left rest now → WhereTold rest rest' (GivesItem now new (item.Header h)) → WhereTold rest rest' (LeadsOver now new (put_item (item.Header h)))
+    → (now.words.lines.ended ≡ true → new.words.lines.ended ≡ true) → given new.point ≡ given now.point + lits_in (item.Header h) → HasCome budget s code written written' left rest' new
+come_header {budget} s code h written written' left rest rest' now new d next lead stays count =
+    let P : List Statement → ℕ → Type 0 = λ ss n. IsTold budget s ss d.replies n in
     let same : statements_of d.front ≡ statements_of (d.front ++ item.Header h ∷ []) = sym (said_push d.front (item.Header h) ∙ append-nil (statements_of d.front)) in
     let none : given now.point ≡ given new.point = omega (arith, count) in
     record {
@@ -109,12 +109,12 @@ come_header s code h written written' left rest rest' now new d next lead stays 
     }
 
 -- a clause is read and added
-pub come_clause : (s s' : State) (code : ℕ) (c : List ℕ) (written written' left rest rest' : Option (List ℕ)) (now new : ReadState)
-    → HasCome s code written written' left rest now → WhereTold rest rest' (GivesItem now new (item.Clause c)) → WhereTold rest rest' (LeadsOver now new (put_item (item.Clause c)))
+pub come_clause : {budget : ℕ} (s s' : State) (code : ℕ) (c : List ℕ) (written written' left rest rest' : Option (List ℕ)) (now new : ReadState)
+    → HasCome budget s code written written' left rest now → WhereTold rest rest' (GivesItem now new (item.Clause c)) → WhereTold rest rest' (LeadsOver now new (put_item (item.Clause c)))
     → (now.words.lines.ended ≡ true → new.words.lines.ended ≡ true) → given new.point ≡ given now.point + lits_in (item.Clause c)
-    → Step s (calls.Add c) (Ok answers.Done) s' → HasCome s' code written written' left rest' new
-come_clause s s' code c written written' left rest rest' now new d next lead stays count step =
-    let P : List Statement → ℕ → Type 0 = λ ss n. IsTold s' ss d.replies n in
+    → Step s (calls.Add c) (Ok answers.Done) s' → HasCome budget s' code written written' left rest' new
+come_clause {budget} s s' code c written written' left rest rest' now new d next lead stays count step =
+    let P : List Statement → ℕ → Type 0 = λ ss n. IsTold budget s' ss d.replies n in
     let front = statements_of d.front in
     record {
       front = d.front ++ item.Clause c ∷ [];
@@ -128,12 +128,12 @@ come_clause s s' code c written written' left rest rest' now new d next lead sta
     }
 
 -- a query is read and replied to
-pub come_query : (s s' : State) (code code' : ℕ) (a : List ℕ) (written written' written'' left rest rest' : Option (List ℕ)) (now new : ReadState)
-    → HasCome s code written written' left rest now → WhereTold rest rest' (GivesItem now new (item.Query a)) → WhereTold rest rest' (LeadsOver now new (put_item (item.Query a)))
+pub come_query : {budget : ℕ} (s s' : State) (code code' : ℕ) (a : List ℕ) (written written' written'' left rest rest' : Option (List ℕ)) (now new : ReadState)
+    → HasCome budget s code written written' left rest now → WhereTold rest rest' (GivesItem now new (item.Query a)) → WhereTold rest rest' (LeadsOver now new (put_item (item.Query a)))
     → (now.words.lines.ended ≡ true → new.words.lines.ended ≡ true) → given new.point ≡ given now.point + lits_in (item.Query a)
-    → IsReplied s a s' written' written'' code' → HasCome s' code' written written'' left rest' new
-come_query s s' code code' a written written' written'' left rest rest' now new d next lead stays count r =
-    let P : List Statement → ℕ → Type 0 = λ ss n. IsTold s' ss (d.replies ++ r.reply ∷ []) n in
+    → IsReplied budget s a s' written' written'' code' → HasCome budget s' code' written written'' left rest' new
+come_query {budget} s s' code code' a written written' written'' left rest rest' now new d next lead stays count r =
+    let P : List Statement → ℕ → Type 0 = λ ss n. IsTold budget s' ss (d.replies ++ r.reply ∷ []) n in
     let W : List ℕ → Type 0 = λ t. Appends written written'' t in
     let front = statements_of d.front in
     record {
@@ -158,9 +158,10 @@ status_answer : (k : ℕ) (rs : List Reply) → IsAnswer k → IsAnswer (status_
 status_answer k [] h = h
 status_answer k (Sat m ∷ rs) h = status_answer 10 rs (inr (inl refl))
 status_answer k (Unsat c ∷ rs) h = status_answer 20 rs (inr (inr refl))
+status_answer k (Unknown conflicts ∷ rs) h = status_answer 0 rs (inl refl)
 
-pub is_answer : {s : State} {code : ℕ} {written written' left rest : Option (List ℕ)} {now : ReadState} → HasCome s code written written' left rest now → IsAnswer code
-is_answer {s} {code} d = let P : ℕ → Type 0 = λ k. IsAnswer k in subst P (sym d.code_is) (status_answer 0 d.replies (inl refl))
+pub is_answer : {budget : ℕ} {s : State} {code : ℕ} {written written' left rest : Option (List ℕ)} {now : ReadState} → HasCome budget s code written written' left rest now → IsAnswer code
+is_answer {budget} {s} {code} d = let P : ℕ → Type 0 = λ k. IsAnswer k in subst P (sym d.code_is) (status_answer 0 d.replies (inl refl))
 
 -- the bytes say the statements of the items that were read, and end so
 said : (bytes : List ℕ) (now : ReadState) (front : List Item) (rest : List ℕ) (e : Ending) → text_reads bytes ≡ put_items front (outcome now rest) → outcome now rest ≡ nothing e
@@ -170,7 +171,7 @@ said bytes now front rest e p q =
     text_is_said bytes (statements_of front) e (ap (λ o. statements_of o.items) whole ∙ ap statements_of (append-nil front), ap (λ o. o.ending) whole)
 
 -- a whole input was read
-pub finished : (s : State) (code : ℕ) (written written' left rest rest' : Option (List ℕ)) (now : ReadState) → HasCome s code written written' left rest now
+pub finished : (s : State) (code : ℕ) (written written' left rest rest' : Option (List ℕ)) (now : ReadState) → HasCome no_budget s code written written' left rest now
     → WhereTold rest rest' (λ before after. (outcome now before ≡ nothing Whole) × (after ≡ [])) → Prints written written' left (Answers code)
 finished s code written written' left rest rest' now d end = (
   replies_text d.replies,
@@ -186,7 +187,7 @@ finished s code written written' left rest rest' now d end = (
 )
 
 -- a bad line was read, and the closing line was written
-pub refused : (s : State) (code : ℕ) (written written' written'' left rest : Option (List ℕ)) (now : ReadState) (line : ℕ) (why : Why) → HasCome s code written written' left rest now
+pub refused : (s : State) (code : ℕ) (written written' written'' left rest : Option (List ℕ)) (now : ReadState) (line : ℕ) (why : Why) → HasCome no_budget s code written written' left rest now
     → IfSome rest (λ before. outcome now before ≡ nothing (Bad line why)) → Appends written' written'' (closing_line line why) → Prints written written'' left Refuses
 refused s code written written' written'' left rest now line why d end closing = (
   replies_text d.replies ++ closing_line line why,
@@ -210,7 +211,7 @@ says_more bytes now front rest p =
     (ap (λ o. statements_of o.items) p ∙ statements_of-append front (outcome now rest).items, ap (λ o. o.ending) p)
 
 -- the run breaks off between two replies
-pub begins : (s : State) (code : ℕ) (written written' left rest : Option (List ℕ)) (now : ReadState) → HasCome s code written written' left rest now
+pub begins : (s : State) (code : ℕ) (written written' left rest : Option (List ℕ)) (now : ReadState) → HasCome no_budget s code written written' left rest now
     → Prints written written' left Begins
 begins s code written written' left rest now d = (
   replies_text d.replies,
@@ -232,7 +233,7 @@ begins s code written written' left rest now d = (
 )
 
 -- the run breaks off in the closing line
-pub begins_closing : (s : State) (code : ℕ) (written written' written'' left rest : Option (List ℕ)) (now : ReadState) (line : ℕ) (why : Why) → HasCome s code written written' left rest now
+pub begins_closing : (s : State) (code : ℕ) (written written' written'' left rest : Option (List ℕ)) (now : ReadState) (line : ℕ) (why : Why) → HasCome no_budget s code written written' left rest now
     → IfSome rest (λ before. outcome now before ≡ nothing (Bad line why)) → AppendsFront written' written'' (closing_line line why) → Prints written written'' left Begins
 begins_closing s code written written' written'' left rest now line why d end part = (
   replies_text d.replies ++ take part.0 (closing_line line why),
@@ -255,10 +256,10 @@ begins_closing s code written written' written'' left rest now line why d end pa
 
 -- the run breaks off in a reply
 pub begins_reply : (s : State) (code : ℕ) (a : List ℕ) (written written' written'' left rest rest' : Option (List ℕ)) (now new : ReadState)
-    → HasCome s code written written' left rest now → WhereTold rest rest' (GivesItem now new (item.Query a)) → IsHalfReplied s a written' written''
+    → HasCome no_budget s code written written' left rest now → WhereTold rest rest' (GivesItem now new (item.Query a)) → IsHalfReplied no_budget s a written' written''
     → Prints written written'' left Begins
 begins_reply s code a written written' written'' left rest rest' now new d next b =
-    let P : List Statement → Type 0 = λ ss. GoodReplies ss (d.replies ++ b.reply ∷ []) in
+    let P : List Statement → Type 0 = λ ss. GoodReplies no_budget ss (d.replies ++ b.reply ∷ []) in
     let front = d.front ++ item.Query a ∷ [] in (
       replies_text d.replies ++ take b.printed.0 (reply_text b.reply),
       Appends-trans written written' written'' (replies_text d.replies) (take b.printed.0 (reply_text b.reply)) d.printed b.printed.1,
@@ -323,7 +324,7 @@ pub no_three : (k : ℕ) → (k ≡ 1) ⊎ ((k ≡ 4) ⊎ (k ≡ 5)) → k ≡ 3
 no_three k a e = ⊎_elim (λ (z : k ≡ 1). omega arith) (⊎_elim (λ (z : k ≡ 4). omega arith) (λ (z : k ≡ 5). omega arith)) a
 
 -- a fault ends the run
-pub cut_short : (s : State) (code : ℕ) (written written' left rest left' : Option (List ℕ)) (now new : ReadState) → HasCome s code written written' left rest now
+pub cut_short : (s : State) (code : ℕ) (written written' left rest left' : Option (List ℕ)) (now new : ReadState) → HasCome no_budget s code written written' left rest now
     → WhereTold rest (rest_of new.words.lines left') (StopsOver now) → new.words.lines.ahead ≡ [] → new.words.lines.ended ≡ false → PrintsBetween written written' left left' IsCutShort
 cut_short s code written written' left rest left' now new d off dry going =
     let P : Option (List ℕ) → Type 0 = λ r. WhereTold rest r (StopsOver now) in

@@ -13,7 +13,10 @@ use Rattle.solver_api.specs.declared.givens.GivenPart.{GivenPart}
 use Rattle.solver_api.specs.declared.givens.GivenPart.TheVariants as part
 use Rattle.solver_api.specs.declared.calls.Call.TheVariants as calls
 use Rattle.solver_api.specs.declared.calls.Reply.TheVariants as answers
-use Rattle.reply_text.specs.Reply.{Reply, Sat, Unsat}
+use Rattle.search_engine.specs.declared.state.Budget.{Budget}
+use Rattle.search_engine.specs.declared.state.Spent.{Spent}
+use Rattle.search_engine.specs.declared.state.Spent.TheVariants.{Conflicts}
+use Rattle.reply_text.specs.Reply.{Reply, Sat, Unsat, Unknown}
 use Rattle.reply_text.specs.Text.{reply_text}
 use Rattle.icnf_runner.specs.Good.{parts_of, greatest_in, IsGood, IsSettled, GoodReplies}
 use Rattle.icnf_runner.specs.Session.{assumed, Gives, IsSolved}
@@ -46,7 +49,7 @@ pub assumed_more : (s : State) (l : ℕ) (ls : List ℕ) → assumed (assumed s 
 assumed_more s l ls = refl
 
 -- a solver that was told nothing
-pub stands_unused : (s : State) → s ≡ unused → IsTold s [] [] 0
+pub stands_unused : {budget : ℕ} (s : State) → s ≡ unused → IsTold budget s [] [] 0
 stands_unused s e = record {
   given_is = ap (λ t. t.given) e;
   none = ap (λ t. t.pending) e;
@@ -64,8 +67,8 @@ lits_of (Clause c) = c
 lits_of (Query a) = a
 
 -- a clause was added
-pub stands_clause : (s s' : State) (script : List Statement) (replies : List Reply) (c : List ℕ) (n : ℕ) → IsTold s script replies n
-    → Step s (calls.Add c) (Ok answers.Done) s' → IsTold s' (script ++ Clause c ∷ []) replies (n + length c)
+pub stands_clause : {budget : ℕ} (s s' : State) (script : List Statement) (replies : List Reply) (c : List ℕ) (n : ℕ) → IsTold budget s script replies n
+    → Step s (calls.Add c) (Ok answers.Done) s' → IsTold budget s' (script ++ Clause c ∷ []) replies (n + length c)
 stands_clause s s' script replies c n st h = record {
   given_is = ap (λ t. t.given) h.1 ∙ ap (λ g. g ++ part.Clause c ∷ []) st.given_is ∙ sym (parts_push script (Clause c));
   none = ap (λ t. t.pending) h.1 ∙ st.none;
@@ -86,7 +89,7 @@ stands_clause s s' script replies c n st h = record {
 }
 
 -- a reply that was given is good
-given_good : (s s' : State) (script : List Statement) (replies : List Reply) (a : List ℕ) (r : Reply) (n : ℕ) → IsTold s script replies n → Gives (assumed s a) r s' → IsGood script a r
+given_good : {budget : ℕ} (s s' : State) (script : List Statement) (replies : List Reply) (a : List ℕ) (r : Reply) (n : ℕ) → IsTold budget s script replies n → Gives budget (assumed s a) r s' → IsGood budget script a r
 given_good s s' script replies a (Sat m) n st h =
     let P : List GivenPart → List ℕ → ℕ → Type 0 = λ g p v. IsModel (GivenTrue g) p v m in
     let g : (assumed s a).given ≡ parts_of script = assumed_given s a ∙ st.given_is in
@@ -98,21 +101,24 @@ given_good s s' script replies a (Unsat core) n st h =
     let g : (assumed s a).given ≡ parts_of script = assumed_given s a ∙ st.given_is in
     let p : (assumed s a).pending ≡ a = assumed_pending s a ∙ ap (λ l. l ++ a) st.none in
     subst (P (parts_of script)) p (subst (λ x. P x (assumed s a).pending) g h.0)
+given_good s s' script replies a (Unknown conflicts) n st h = (h.0, h.1)
 
 -- where all is settled the reply is the empty core
-given_settled : (s s' : State) (script : List Statement) (replies : List Reply) (a : List ℕ) (r : Reply) (n : ℕ) → IsTold s script replies n → Gives (assumed s a) r s'
+given_settled : {budget : ℕ} (s s' : State) (script : List Statement) (replies : List Reply) (a : List ℕ) (r : Reply) (n : ℕ) → IsTold budget s script replies n → Gives budget (assumed s a) r s'
     → IsSettled script replies → r ≡ Unsat []
 given_settled s s' script replies a (Sat m) n st h settled = absurd (false≢true (sym h.1 ∙ assumed_settled s a ∙ st.settles settled))
 given_settled s s' script replies a (Unsat core) n st h settled = ap Unsat (h.1 (assumed_settled s a ∙ st.settles settled))
+given_settled s s' script replies a (Unknown conflicts) n st h settled = absurd (false≢true (sym h.2 ∙ assumed_settled s a ∙ st.settles settled))
 
 abbrev core_of : Reply → List ℕ
 core_of (Sat m) = 0 ∷ []
 core_of (Unsat core) = core
+core_of (Unknown conflicts) = 0 ∷ []
 
 -- and afterwards the solver knows
-now_settled : (s s' : State) (script : List Statement) (replies : List Reply) (a : List ℕ) (r : Reply) (n : ℕ) → IsTold s script replies n → Gives (assumed s a) r s'
+now_settled : {budget : ℕ} (s s' : State) (script : List Statement) (replies : List Reply) (a : List ℕ) (r : Reply) (n : ℕ) → IsTold budget s script replies n → Gives budget (assumed s a) r s'
     → IsSettled (script ++ Query a ∷ []) (replies ++ r ∷ []) → s'.settled ≡ true
-now_settled s s' script replies a r n st h settled =
+now_settled {budget} s s' script replies a r n st h settled =
     ⊎_elim
     (λ (k : Contains (script ++ Query a ∷ []) (Clause [])).
     ⊎_elim
@@ -129,25 +135,29 @@ now_settled s s' script replies a r n st h settled =
     differ : {x y : List ℕ} → Query x ≡ Clause y → ⊥
     differ e = cc
 
-    before : IsSettled script replies → (r : Reply) → Gives (assumed s a) r s' → s'.settled ≡ true
+    before : IsSettled script replies → (r : Reply) → Gives budget (assumed s a) r s' → s'.settled ≡ true
     before is (Sat m) g = ap (λ t. t.settled) g.2 ∙ assumed_settled s a ∙ st.settles is
     before is (Unsat core) g = ap (λ t. t.settled) g.2 ∙ or_left (assumed s a).settled (length core == 0) (assumed_settled s a ∙ st.settles is)
+    before is (Unknown conflicts) g = ap (λ t. t.settled) g.3 ∙ assumed_settled s a ∙ st.settles is
 
-    here : (r : Reply) → Gives (assumed s a) r s' → r ≡ Unsat [] → s'.settled ≡ true
+    here : (r : Reply) → Gives budget (assumed s a) r s' → r ≡ Unsat [] → s'.settled ≡ true
     here (Sat m) g e = absurd (cc)
     here (Unsat core) g e = ap (λ t. t.settled) g.2 ∙ or_right (assumed s a).settled (length core == 0) (eq-eqb (length core) 0 (ap length (ap core_of e)))
+    here (Unknown conflicts) g e = absurd (cc)
 
-given_fields : (s s' : State) (a : List ℕ) (r : Reply) → Gives (assumed s a) r s' → (s'.given ≡ s.given) × (s'.pending ≡ []) × (s'.greatest ≡ max s.greatest (greatest_var a)) × (s'.taken ≡ s.taken + length a)
-given_fields s s' a (Sat m) h =
+given_fields : (budget : ℕ) (s s' : State) (a : List ℕ) (r : Reply) → Gives budget (assumed s a) r s' → (s'.given ≡ s.given) × (s'.pending ≡ []) × (s'.greatest ≡ max s.greatest (greatest_var a)) × (s'.taken ≡ s.taken + length a)
+given_fields budget s s' a (Sat m) h =
     (ap (λ t. t.given) h.2 ∙ assumed_given s a, ap (λ t. t.pending) h.2, ap (λ t. t.greatest) h.2 ∙ assumed_greatest s a, ap (λ t. t.taken) h.2 ∙ assumed_taken s a)
-given_fields s s' a (Unsat core) h =
+given_fields budget s s' a (Unsat core) h =
     (ap (λ t. t.given) h.2 ∙ assumed_given s a, ap (λ t. t.pending) h.2, ap (λ t. t.greatest) h.2 ∙ assumed_greatest s a, ap (λ t. t.taken) h.2 ∙ assumed_taken s a)
+given_fields budget s s' a (Unknown conflicts) h =
+    (ap (λ t. t.given) h.3 ∙ assumed_given s a, ap (λ t. t.pending) h.3, ap (λ t. t.greatest) h.3 ∙ assumed_greatest s a, ap (λ t. t.taken) h.3 ∙ assumed_taken s a)
 
 -- a query was replied to
-pub stands_query : (s s' : State) (script : List Statement) (replies : List Reply) (a : List ℕ) (r : Reply) (n : ℕ) → IsTold s script replies n
-    → Gives (assumed s a) r s' → IsTold s' (script ++ Query a ∷ []) (replies ++ r ∷ []) (n + length a)
-stands_query s s' script replies a r n st h =
-    let f = given_fields s s' a r h in
+pub stands_query : {budget : ℕ} (s s' : State) (script : List Statement) (replies : List Reply) (a : List ℕ) (r : Reply) (n : ℕ) → IsTold budget s script replies n
+    → Gives budget (assumed s a) r s' → IsTold budget s' (script ++ Query a ∷ []) (replies ++ r ∷ []) (n + length a)
+stands_query {budget} s s' script replies a r n st h =
+    let f = given_fields budget s s' a r h in
     record {
       given_is = f.0 ∙ st.given_is ∙ sym (parts_push script (Query a) ∙ append-nil (parts_of script));
       none = f.1;
@@ -158,8 +168,8 @@ stands_query s s' script replies a r n st h =
     }
 
 -- the replies are good also where the last one was not whole
-pub good_half : (s s' : State) (script : List Statement) (replies : List Reply) (a : List ℕ) (r : Reply) (n : ℕ) → IsTold s script replies n
-    → Gives (assumed s a) r s' → GoodReplies (script ++ Query a ∷ []) (replies ++ r ∷ [])
+pub good_half : {budget : ℕ} (s s' : State) (script : List Statement) (replies : List Reply) (a : List ℕ) (r : Reply) (n : ℕ) → IsTold budget s script replies n
+    → Gives budget (assumed s a) r s' → GoodReplies budget (script ++ Query a ∷ []) (replies ++ r ∷ [])
 good_half s s' script replies a r n st h = (stands_query s s' script replies a r n st h).good
 
 abbrev some_model : Option (List Bool) → List Bool
@@ -171,9 +181,9 @@ some_core None = []
 some_core (Some core) = core
 
 -- a solve that answered Sat gave the model that is shown
-pub solved_sat : (old new : State) (model : List Bool) (text text' : List ℕ) → Step old calls.Solve (Ok (answers.Solved outcomes.Sat)) new → model_of new.mode ≡ Some model
-    → text' ≡ text ++ reply_text (Sat model) → IsSolved old new text text' 10
-solved_sat old new model text text' h shown printed =
+pub solved_sat : (budget : Budget) (limit : ℕ) (old new : State) (model : List Bool) (text text' : List ℕ) → Step old (calls.Solve budget limit) (Ok (answers.Solved outcomes.Sat)) new → model_of new.mode ≡ Some model
+    → text' ≡ text ++ reply_text (Sat model) → IsSolved budget.conflicts old new text text' 10
+solved_sat budget limit old new model text text' h shown printed =
     let same : model ≡ h.0 = ap some_model (sym shown ∙ ap (λ s. model_of s.mode) h.3) in
     record {
       reply = Sat h.0;
@@ -183,13 +193,25 @@ solved_sat old new model text text' h shown printed =
     }
 
 -- a solve that answered Unsat gave the core that is shown
-pub solved_unsat : (old new : State) (core : List ℕ) (text text' : List ℕ) → Step old calls.Solve (Ok (answers.Solved outcomes.Unsat)) new → shown_core new.mode ≡ Some core
-    → text' ≡ text ++ reply_text (Unsat core) → IsSolved old new text text' 20
-solved_unsat old new core text text' h shown printed =
+pub solved_unsat : (budget : Budget) (limit : ℕ) (old new : State) (core : List ℕ) (text text' : List ℕ) → Step old (calls.Solve budget limit) (Ok (answers.Solved outcomes.Unsat)) new → shown_core new.mode ≡ Some core
+    → text' ≡ text ++ reply_text (Unsat core) → IsSolved budget.conflicts old new text text' 20
+solved_unsat budget limit old new core text text' h shown printed =
     let same : core ≡ h.0 = ap some_core (sym shown ∙ ap (λ s. shown_core s.mode) h.3) in
     record {
       reply = Unsat h.0;
       gives = (h.1, h.2, h.3);
       printed = printed ∙ ap (λ c. text ++ reply_text (Unsat c)) same;
+      code_is = refl;
+    }
+
+-- a solve that answered Unknown used up the budget
+pub solved_unknown : (budget : Budget) (limit : ℕ) (old new : State) (spent : Spent) (conflicts : ℕ) (text text' : List ℕ) → spent ≡ Conflicts conflicts
+    → Step old (calls.Solve budget limit) (Ok (answers.Solved (outcomes.Unknown spent))) new → text' ≡ text ++ reply_text (Unknown conflicts) → IsSolved budget.conflicts old new text text' 0
+solved_unknown budget limit old new spent conflicts text text' is h printed =
+    let W : Spent → Type 0 = λ s. Step old (calls.Solve budget limit) (Ok (answers.Solved (outcomes.Unknown s))) new in
+    record {
+      reply = Unknown conflicts;
+      gives = subst W is h;
+      printed = printed;
       code_is = refl;
     }

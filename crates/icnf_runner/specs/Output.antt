@@ -1,5 +1,5 @@
 -- What a run writes, by the bytes that it reads.
-use Rattle.std.specs.Prelude.{◌≡◌, ◌⊎◌, ℕ, false, List, [], ◌∷◌, ◌++◌, take, codes, IfSome}
+use Rattle.std.specs.Prelude.{◌≡◌, ◌⊎◌, ℕ, ◌^◌, false, List, [], ◌∷◌, ◌++◌, take, codes, IfSome}
 use Rattle.std.specs.declared.option.Option.{Option}
 use Rattle.std.specs.Fmt.{decimal}
 use Rattle.std.specs.Io.KnownBytes.{Appends}
@@ -35,12 +35,16 @@ IsAnswer code = (code ≡ 0) ⊎ ((code ≡ 10) ⊎ (code ≡ 20))
 abbrev pub IsBreak : ℕ → Type 0
 IsBreak code = (code ≡ 3) ⊎ ((code ≡ 4) ⊎ (code ≡ 5))
 
+-- the budget of conflicts where none is stated: no UNKNOWN is good there
+abbrev pub no_budget : ℕ
+no_budget = 2 ^ 62
+
 -- the bytes are a whole input, and the text is that of good replies to every query, of which the last names the status
 pub record Answers (code : ℕ) (bytes text : List ℕ) : Type 0 where
   pub script : List Statement
   pub replies : List Reply
   pub reads : Reads bytes script Whole
-  pub good : GoodReplies script replies
+  pub good : GoodReplies no_budget script replies
   pub printed : text ≡ replies_text replies
   pub status : code ≡ status_after 0 replies
 
@@ -55,7 +59,7 @@ pub record Refuses (bytes text : List ℕ) : Type 0 where
   pub line : ℕ
   pub why : Why
   pub reads : Reads bytes script (Bad line why)
-  pub good : GoodReplies script replies
+  pub good : GoodReplies no_budget script replies
   pub printed : text ≡ replies_text replies ++ closing_line line why
 
 -- The text is the front of one that good replies to the first queries make, behind which the closing line may come.
@@ -67,7 +71,7 @@ pub record Begins (bytes text : List ℕ) : Type 0 where
   pub back : List Statement
   pub cut : script ≡ front ++ back
   pub replies : List Reply
-  pub good : GoodReplies front replies
+  pub good : GoodReplies no_budget front replies
   pub next : List ℕ
   pub may_come : (next ≡ []) ⊎ ((back ≡ []) × (line : ℕ) × (why : Why) × (ending ≡ Bad line why) × (next ≡ closing_line line why))
   pub size : ℕ
@@ -83,7 +87,7 @@ pub record IsCutShort (text bytes rest : List ℕ) : Type 0 where
   pub script : List Statement
   pub ended : EndedIn pieces script
   pub replies : List Reply
-  pub good : GoodReplies script replies
+  pub good : GoodReplies no_budget script replies
   pub printed : text ≡ replies_text replies
 
 -- text was written of which P holds by the bytes that were to come, where these are told

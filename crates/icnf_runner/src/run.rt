@@ -9,6 +9,7 @@ use crate::session::{Break, add_clause, give_reply};
 use icnf_reader::item::{Item, Why};
 use icnf_reader::reader::{Reader, Stop};
 use io_edge::outside::{Sink, Source, write_all};
+use solver_api::calls::NO_BUDGET;
 use solver_api::solver::Solver;
 use std::alloc::{AllocError, Global};
 use std::fmt::Write;
@@ -51,7 +52,7 @@ fn close<K: Sink>(alloc: Global, sink: &mut K, line: u64, why: Why) -> Status
     }
 }
 
-// Answers an input.
+// Answers an input. No budget is stated, so no reply is UNKNOWN.
 fn run_input<S: Source, K: Sink>(alloc: Global, source: &mut S, sink: &mut K) -> Status
     ensures codes { IsAnswer result.code ⊎ ((result.code ≡ 1) ⊎ IsBreak result.code) }
     ensures answers { IsAnswer result.code → Prints (K.written sink.old) (K.written sink.new) (S.left source.old) (Answers result.code) }
@@ -77,7 +78,7 @@ fn run_input<S: Source, K: Sink>(alloc: Global, source: &mut S, sink: &mut K) ->
                 Ok(()) => {}
                 Err(_) => return Status { code: 5 },
             },
-            Ok(Item::Query(lits)) => match give_reply(alloc, &mut solver, &lits, sink) {
+            Ok(Item::Query(lits)) => match give_reply(alloc, &mut solver, &lits, NO_BUDGET, sink) {
                 Ok(last) => code = last,
                 Err(Break::Write) => return Status { code: 4 },
                 Err(Break::Memory) => return Status { code: 5 },
@@ -105,8 +106,8 @@ fn refuse_words<K: Sink>(sink: &mut K) -> Status
 /// Runs the program over the words of its command line, a source and a sink, and answers its exit status.
 ///
 /// With no words it reads an iCNF text of clauses and queries, and writes a reply to each query before it reads further. The
-/// status is 10 or 20 where the last reply is SATISFIABLE or UNSATISFIABLE, and 0 where there was no query. It is 1 where the
-/// input goes wrong, which a last line tells with the place; 2 for any words, which writes the usage line and reads nothing; 3
+/// status is 10 or 20 where the last reply is SATISFIABLE or UNSATISFIABLE, and 0 where there was no query. No budget is stated,
+/// so no reply is UNKNOWN. The status is 1 where the input goes wrong, which a last line tells with the place; 2 for any words, which writes the usage line and reads nothing; 3
 /// where the source failed, 4 where the sink failed, and 5 for want of memory.
 pub fn run<S: Source, K: Sink>(
     alloc: Global,

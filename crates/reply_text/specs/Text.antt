@@ -3,7 +3,7 @@ use Rattle.std.specs.Prelude.{ℕ, suc, zero, ◌+◌, ◌%◌, ◌==◌, Bool, 
 use Rattle.std.specs.List.{flat_map, join_with_byte}
 use Rattle.std.specs.Fmt.{decimal}
 use Rattle.sat_terms.specs.Literal.{var_of, pos_lit, neg_lit}
-use Rattle.reply_text.specs.Reply.{Reply, Sat, Unsat}
+use Rattle.reply_text.specs.Reply.{Reply, Sat, Unsat, Unknown}
 
 -- a literal as the number that DIMACS writes
 abbrev pub number_text : ℕ → List ℕ
@@ -36,6 +36,7 @@ true_lits n (b ∷ bs) = (if b then pos_lit n else neg_lit n) ∷ true_lits (n +
 abbrev pub reply_text : Reply → List ℕ
 reply_text (Sat m) = codes "s SATISFIABLE\n" ++ wrap (codes "v ") (true_lits 1 m)
 reply_text (Unsat core) = codes "s UNSATISFIABLE\n" ++ wrap (codes "f ") core
+reply_text (Unknown conflicts) = codes "s UNKNOWN\nc conflicts " ++ (decimal conflicts ++ codes "\n")
 
 -- and for replies, one after another
 abbrev pub replies_text : List Reply → List ℕ

@@ -1,4 +1,4 @@
-use crate::text::{push_core, push_model};
+use crate::text::{push_core, push_model, push_unknown};
 use sat_model::lists::Lits;
 use sat_model::literal::Lit;
 use std::test::Fail;
@@ -29,5 +29,8 @@ fn models_and_cores_are_wrapped_at_twenty(rt: HostRuntime) -> Result<(), Fail> {
     let mut text = String::new(alloc);
     push_core(&mut text, core.as_slice())?;
     assert_eq!(rt; text.as_str(), "s UNSATISFIABLE\nf -4194303 7 0\n");
+    let mut text = String::new(alloc);
+    push_unknown(&mut text, 10_000)?;
+    assert_eq!(rt; text.as_str(), "s UNKNOWN\nc conflicts 10000\n");
     Ok(())
 }

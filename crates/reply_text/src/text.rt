@@ -1,7 +1,7 @@
-//! The text of models and cores.
+//! The text of replies.
 ghost use Rattle.std.specs.Prelude.{◌≡◌, ◌+◌, ◌==◌, ◌≤◌, ◌<◌, ◌^◌, Some, if◌then◌else◌, ℕ, List, [], ◌∷◌, ◌++◌, length, OnOk, IfOk, string_bytes, codes};
 ghost use Rattle.sat_terms.specs.Literal.{pos_lit, neg_lit};
-ghost use Rattle.reply_text.specs.Reply.{Sat, Unsat};
+ghost use Rattle.reply_text.specs.Reply.{Sat, Unsat, Unknown};
 ghost use Rattle.reply_text.specs.Text.{number_text, wrap, true_lits, reply_text};
 ghost use Rattle.reply_text.specs.Flow.{lead, flow_lits};
 
@@ -121,4 +121,13 @@ pub fn push_core(text: &mut String, core: &[Lit]) -> Result<(), Memory>
     ensures { OnOk result (string_bytes text.new ≡ string_bytes text.old ++ reply_text (Unsat core.now)) }
 {
     push_section(text, "s UNSATISFIABLE\n", "f ", core)
+}
+
+/// Appends the text of a reply that is neither: `s UNKNOWN`, and then a line with the number of conflicts that came, which is
+/// decimal. After `Memory` some of it may stand there.
+pub fn push_unknown(text: &mut String, conflicts: u64) -> Result<(), Memory>
+    ensures { OnOk result (string_bytes text.new ≡ string_bytes text.old ++ reply_text (Unknown conflicts)) }
+{
+    write!(text, "s UNKNOWN\nc conflicts {conflicts}\n")?;
+    Ok(())
 }
