@@ -107,8 +107,8 @@ fn refuse_words<K: Sink>(sink: &mut K) -> Status
 ///
 /// With no words it reads an iCNF text of clauses and queries, and writes a reply to each query before it reads further. The
 /// status is 10 or 20 where the last reply is SATISFIABLE or UNSATISFIABLE, and 0 where there was no query. No budget is stated,
-/// so no reply is UNKNOWN. The status is 1 where the input goes wrong, which a last line tells with the place; 2 for any words, which writes the usage line and reads nothing; 3
-/// where the source failed, 4 where the sink failed, and 5 for want of memory.
+/// so no reply is UNKNOWN. The status is 1 where the input goes wrong, which a last line tells with the place; 2 for any words,
+/// which writes the usage line and reads nothing; 3 where the source failed, 4 where the sink failed, and 5 for want of memory.
 pub fn run<S: Source, K: Sink>(
     alloc: Global,
     words: &[String],
