@@ -142,13 +142,7 @@ pub record Taught (assumptions : List ℕ) (core : Core) (s : List (Option Store
   pub off : FalseOn core.trail.steps c.lits
   pub asserts : IsAsserting core.trail.steps core.trail.level c.lits lit level
 
--- the literal that is owed asserts
-pub owed_asserts : (owed : Option ℕ) (t : List Step) (top l back : ℕ) (c : List ℕ) → Owes owed t top c back → owed ≡ Some l → IsAsserting t top c l back
-owed_asserts owed t top l back c owes is =
-    let same : owes.lit ≡ l = (let e : Some owes.lit ≡ Some l = sym owes.is ∙ is in cc) in
-    subst (λ k. IsAsserting t top c k back) same owes.asserting
-
-module _ (assumptions : List ℕ) (core : Core) (s : List (Option Stored)) (id : ℕ) (c : Stored) (lit level : ℕ) (taught : Taught assumptions core s id c lit level) where
+module _ {assumptions : List ℕ} {core : Core} {s : List (Option Stored)} {id : ℕ} {c : Stored} {lit level : ℕ} (taught : Taught assumptions core s id c lit level) where
   pub taught_within : StoreWithin core.trail.declared s
   taught_within = within_filled core.store s id c taught.fills core.trail.declared taught.ready.within (false_within core.trail c.lits taught.room taught.off)
 
@@ -174,7 +168,7 @@ module _ (assumptions : List ℕ) (core : Core) (s : List (Option Stored)) (id :
   pub taught_rooted : Rooted s core.trail.steps
   taught_rooted = rooted_filled core.store s id c taught.fills core.trail.steps taught.ready.rooted
 
-  module _ (t : Trace) (back : IsBack core.trail t level) where
+  module _ {t : Trace} (back : IsBack core.trail t level) where
     pub taught_declared : var_of lit ≤ t.declared
     taught_declared =
         let named = false_named core.trail lit taught.room (taught.off lit taught.asserts.holds) in
@@ -226,10 +220,10 @@ module _ (assumptions : List ℕ) (core : Core) (s : List (Option Stored)) (id :
       }
 
 -- the same, as the code reads it
-pub taught_by : (assumptions : List ℕ) (core : Core) (s : List (Option Stored)) (id : ℕ) (c : Stored) (lits : List ℕ) (lit level : ℕ) → IsReady assumptions core → AssumesFirst assumptions core.trail.steps → IsTrail core.trail.steps core.trail.level
-    → HasRoom core.trail → Fills core.store s id c → is_firm (Some c) ≡ false → c.lits ≡ lits → Implies (StoreTrue core.store) lits → FalseOn core.trail.steps lits → IsAsserting core.trail.steps core.trail.level lits lit level
-    → Taught assumptions core s id c lit level
-taught_by assumptions core s id c lits lit level ready first shape room fills soft same implied off asserts = record {
+pub taught_by : {assumptions : List ℕ} {core : Core} {s : List (Option Stored)} {id lit level : ℕ} {c : Stored} {lits : List ℕ} → IsReady assumptions core → AssumesFirst assumptions core.trail.steps → IsTrail core.trail.steps core.trail.level
+    → HasRoom core.trail → Fills core.store s id c → is_firm (Some c) ≡ false → c.lits ≡ lits → Implies (StoreTrue core.store) lits → FalseOn core.trail.steps lits
+    → (owes : Owes core.tally.owes core.trail.steps core.trail.level lits level) → owes.lit ≡ lit → Taught assumptions core s id c lit level
+taught_by {assumptions} {core} {s} {id} {lit} {level} {c} {lits} ready first shape room fills soft same implied off owes is = record {
   ready = ready;
   first = first;
   shape = shape;
@@ -238,5 +232,8 @@ taught_by assumptions core s id c lits lit level ready first shape room fills so
   soft = soft;
   implied = rw same implied;
   off = rw same off;
-  asserts = rw same asserts;
+  asserts = rw same (subst (λ l. IsAsserting core.trail.steps core.trail.level lits l level) is owes.asserting);
 }
+
+pub owed_is : {owed answer : Option ℕ} {t : List Step} {top l level : ℕ} {lits : List ℕ} (owes : Owes owed t top lits level) → answer ≡ owed → answer ≡ Some l → owes.lit ≡ l
+owed_is {l = l} owes same is = let e : Some owes.lit ≡ Some l = sym owes.is ∙ sym same ∙ is in cc

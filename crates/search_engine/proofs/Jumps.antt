@@ -53,10 +53,10 @@ pub jumped_from : (old new : Trace) (level j : ℕ) (last : List Step) (x : Step
 jumped_from old new level j last x shape back in' high implied is =
     let within = back.within in
     let le : back.kept ≤ j =
-        (elim (cases_lt j back.kept) [
-          | inl lt ↦ absurd (let low = back.low j lt in omega arith)
-          | inr ge ↦ ge
-        ]) in
+    (elim (cases_lt j back.kept) [
+      | inl lt ↦ absurd (let low = back.low j lt in omega arith)
+      | inr ge ↦ ge
+    ]) in
     let top = below_top 0 old.steps old.level shape.levels j in' in
     record {
       kept = back.kept;

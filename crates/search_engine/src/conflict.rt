@@ -42,7 +42,6 @@ pub(crate) fn resolve(
     ensures keeps { Keeps core.old core.new }
     ensures budget { core.new.tally.budget ≡ core.old.tally.budget }
 {
-    let _ = assumptions;
     core.trail.has_shape();
     let top = highest(&core.trail, core.store.get(conflict));
     if top == 0 {
@@ -79,7 +78,9 @@ fn learn(core: &mut Core, assumptions: &[Lit], learned: &Learned) -> Result<(), 
     core.trail.has_shape();
     core.trail.has_room();
     core.watches.goes_on_following();
-    let id = core.store.add(learned.lits.as_slice(), Keep::Redundant, learned.glue)?;
+    let id = core
+        .store
+        .add(learned.lits.as_slice(), Keep::Redundant, learned.glue)?;
     core.watches.attach(&core.store, id)?;
     core.trail.back_to(learned.back_level);
     core.watches.cut(&core.trail);

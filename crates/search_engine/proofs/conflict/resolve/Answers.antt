@@ -1,4 +1,3 @@
-use Rattle.std.proofs.Common.{◌≡◌, refl, sym}
 use Rattle.conflict_analysis.proofs.Returns.{false_back, reaches_back, highest_reaches, highest_bound}
 use Rattle.search_engine.proofs.Conflicts.{root_conflict, ready_back, first_back}
 use Rattle.search_engine.proofs.Jumps.{jump_rises, jumped_back}
@@ -7,7 +6,7 @@ use Rattle.search_engine.proofs.conflict.resolve.Goals as goal
 pub returns-then-top-eq0-clause-turn : goal.returns-then-top-eq0-clause-turn
 returns-then-top-eq0-clause-turn c =
     rw c.new.ensures
-      (root_conflict _ _ _ _ _ _ c.requires.stands.ready.rooted c.has_shape.ensures c.requires.live c.requires.is_false (rw c.get.ensures.value at c.highest-top.ensures.bound) c.if-top-eq0.true)
+    (root_conflict _ _ _ _ _ _ c.requires.stands.ready.rooted c.has_shape.ensures c.requires.live c.requires.is_false (rw c.get.ensures.value at c.highest-top.ensures.bound) c.if-top-eq0.true)
 
 pub back_to-requires : goal.back_to-requires
 back_to-requires c = highest_bound _ _ _ _ c.has_shape.ensures c.highest-top.ensures.attained
