@@ -44,7 +44,8 @@ pub(crate) fn resolve(
 {
     core.trail.has_shape();
     let top = highest(&core.trail, core.store.get(conflict));
-    if top == 0 {
+    let at_root = top == 0;
+    if at_root {
         return Ok(Turn::Ends(Found::Unsat(Lits::new(alloc))));
     }
     core.trail.back_to(top);
@@ -78,9 +79,8 @@ fn learn(core: &mut Core, assumptions: &[Lit], learned: &Learned) -> Result<(), 
     core.trail.has_shape();
     core.trail.has_room();
     core.watches.goes_on_following();
-    let id = core
-        .store
-        .add(learned.lits.as_slice(), Keep::Redundant, learned.glue)?;
+    let lits = learned.lits.as_slice();
+    let id = core.store.add(lits, Keep::Redundant, learned.glue)?;
     core.watches.attach(&core.store, id)?;
     core.trail.back_to(learned.back_level);
     core.watches.cut(&core.trail);

@@ -6,12 +6,12 @@ use Rattle.search_engine.proofs.conflict.learn.Goals as goal
 pub attach-requires-clause-declared : goal.attach-requires-clause-declared
 attach-requires-clause-declared c =
     let r = c.requires in
-    taught_attachable (taught_by r.ready r.first c.has_shape.ensures c.has_room.ensures c.in_ok-id.ensures.ok refl c.as_slice.ensures r.implied r.is_false r.owes refl)
+    taught_attachable (taught_by r.ready r.first c.has_shape.ensures c.has_room.ensures c.in_ok-id.ensures.ok refl c.as_slice-lits.ensures r.implied r.is_false r.owes refl)
 
 pub returns-in_err-attach-clause-keeps : goal.returns-in_err-attach-clause-keeps
 returns-in_err-attach-clause-keeps c =
     let r = c.requires in
-    let taught = taught_by r.ready r.first c.has_shape.ensures c.has_room.ensures c.in_ok-id.ensures.ok refl c.as_slice.ensures r.implied r.is_false r.owes refl in
+    let taught = taught_by r.ready r.first c.has_shape.ensures c.has_room.ensures c.in_ok-id.ensures.ok refl c.as_slice-lits.ensures r.implied r.is_false r.owes refl in
     taught_keeps taught _ _ _ (taught_rooted taught) refl
 
 pub cut-requires : goal.cut-requires
@@ -27,19 +27,19 @@ pub assign-requires-clause-declared : goal.assign-requires-clause-declared
 assign-requires-clause-declared c =
     let r = c.requires in
     let is = owed_is r.owes c.owes.ensures c.in-Some.is in
-    taught_declared (taught_by r.ready r.first c.has_shape.ensures c.has_room.ensures c.in_ok-id.ensures.ok refl c.as_slice.ensures r.implied r.is_false r.owes is) c.back_to.ensures
+    taught_declared (taught_by r.ready r.first c.has_shape.ensures c.has_room.ensures c.in_ok-id.ensures.ok refl c.as_slice-lits.ensures r.implied r.is_false r.owes is) c.back_to.ensures
 
 pub assign-requires-clause-unassigned : goal.assign-requires-clause-unassigned
 assign-requires-clause-unassigned c =
     let r = c.requires in
     let is = owed_is r.owes c.owes.ensures c.in-Some.is in
-    taught_free (taught_by r.ready r.first c.has_shape.ensures c.has_room.ensures c.in_ok-id.ensures.ok refl c.as_slice.ensures r.implied r.is_false r.owes is) c.back_to.ensures
+    taught_free (taught_by r.ready r.first c.has_shape.ensures c.has_room.ensures c.in_ok-id.ensures.ok refl c.as_slice-lits.ensures r.implied r.is_false r.owes is) c.back_to.ensures
 
 pub returns-clause-next : goal.returns-clause-next
 returns-clause-next c =
     let r = c.requires in
     let is = owed_is r.owes c.owes.ensures c.in-Some.is in
-    let taught = taught_by r.ready r.first c.has_shape.ensures c.has_room.ensures c.in_ok-id.ensures.ok refl c.as_slice.ensures r.implied r.is_false r.owes is in
+    let taught = taught_by r.ready r.first c.has_shape.ensures c.has_room.ensures c.in_ok-id.ensures.ok refl c.as_slice-lits.ensures r.implied r.is_false r.owes is in
     let back = c.back_to.ensures in
     let last = c.assign.new.self in
     let steps = c.assign.ensures.steps in
@@ -60,11 +60,11 @@ pub returns-clause-jumped : goal.returns-clause-jumped
 returns-clause-jumped c =
     let r = c.requires in
     let is = owed_is r.owes c.owes.ensures c.in-Some.is in
-    last_jumped (taught_by r.ready r.first c.has_shape.ensures c.has_room.ensures c.in_ok-id.ensures.ok refl c.as_slice.ensures r.implied r.is_false r.owes is) c.back_to.ensures c.assign.new.self c.assign.ensures.steps
+    last_jumped (taught_by r.ready r.first c.has_shape.ensures c.has_room.ensures c.in_ok-id.ensures.ok refl c.as_slice-lits.ensures r.implied r.is_false r.owes is) c.back_to.ensures c.assign.new.self c.assign.ensures.steps
 
 pub returns-clause-keeps : goal.returns-clause-keeps
 returns-clause-keeps c =
     let r = c.requires in
     let is = owed_is r.owes c.owes.ensures c.in-Some.is in
-    let taught = taught_by r.ready r.first c.has_shape.ensures c.has_room.ensures c.in_ok-id.ensures.ok refl c.as_slice.ensures r.implied r.is_false r.owes is in
+    let taught = taught_by r.ready r.first c.has_shape.ensures c.has_room.ensures c.in_ok-id.ensures.ok refl c.as_slice-lits.ensures r.implied r.is_false r.owes is in
     taught_keeps taught _ _ _ (last_rooted taught c.back_to.ensures c.assign.new.self c.assign.ensures.steps) (c.assign.ensures.declared ∙ c.back_to.ensures.declared)

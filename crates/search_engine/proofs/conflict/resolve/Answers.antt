@@ -3,10 +3,10 @@ use Rattle.search_engine.proofs.Conflicts.{root_conflict, ready_back, first_back
 use Rattle.search_engine.proofs.Jumps.{jump_rises, jumped_back}
 use Rattle.search_engine.proofs.conflict.resolve.Goals as goal
 
-pub returns-then-top-eq0-clause-turn : goal.returns-then-top-eq0-clause-turn
-returns-then-top-eq0-clause-turn c =
+pub returns-then-at_root-clause-turn : goal.returns-then-at_root-clause-turn
+returns-then-at_root-clause-turn c =
     rw c.new.ensures
-    (root_conflict _ _ _ _ _ _ c.requires.stands.ready.rooted c.has_shape.ensures c.requires.live c.requires.is_false (rw c.get.ensures.value at c.highest-top.ensures.bound) c.if-top-eq0.true)
+    (root_conflict _ _ _ _ _ _ c.requires.stands.ready.rooted c.has_shape.ensures c.requires.live c.requires.is_false (rw c.get.ensures.value at c.highest-top.ensures.bound) c.if-at_root.true)
 
 pub back_to-requires : goal.back_to-requires
 back_to-requires c = highest_bound _ _ _ _ c.has_shape.ensures c.highest-top.ensures.attained
@@ -17,7 +17,7 @@ analyze-requires-clause-is_false c =
 
 pub analyze-requires-clause-reaches : goal.analyze-requires-clause-reaches
 analyze-requires-clause-reaches c =
-    reaches_back _ _ _ _ c.has_shape.ensures c.has_shape-2.ensures c.back_to.ensures c.requires.is_false (highest_reaches _ _ _ c.if-top-eq0.false (rw c.get.ensures.value at c.highest-top.ensures.attained))
+    reaches_back _ _ _ _ c.has_shape.ensures c.has_shape-2.ensures c.back_to.ensures c.requires.is_false (highest_reaches _ _ _ c.if-at_root.false (rw c.get.ensures.value at c.highest-top.ensures.attained))
 
 pub learn-requires-clause-ready : goal.learn-requires-clause-ready
 learn-requires-clause-ready c =
