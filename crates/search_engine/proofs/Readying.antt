@@ -1,5 +1,5 @@
 -- Laws of a core that is made ready: every live clause is attached once.
-use Rattle.std.proofs.Common.{◌≡◌, ◌≢◌, ℕ, suc, zero, ◌+◌, ◌<◌, ◌≤◌, Bool, true, false, cond, not, ◌||◌, eqb, List, [], ◌∷◌, length, get_or, take, ◌⊎◌, inl, inr, refl, sym, ap, ◌∙◌, arith, Option, Some, None}
+use Rattle.std.proofs.Common.{◌≡◌, ◌≢◌, ℕ, suc, zero, ◌+◌, ◌<◌, ◌≤◌, Bool, true, false, cond, not, ◌||◌, eqb, List, [], ◌∷◌, length, get_or, take, ◌⊎◌, inl, inr, refl, sym, ap, ◌∙◌, arith, Option, Some, None, Result, Ok, Err, OnOk}
 use Rattle.std.specs.Prelude.{IsSome, is_some}
 use Rattle.std.proofs.lemmas.Bool.{false≢true, cases_eq, or_cases, or_left, or_right, or_from, eqb-true, eq-eqb, ne_eqb, false_from_ne_true, cases_Bool}
 use Rattle.std.proofs.lemmas.List.{take_all}
@@ -91,3 +91,14 @@ pub attaches_live : (s : List (Option Stored)) (none firm redundant now all : Li
     → ((k : ℕ) → has all k ≡ (has now k || has redundant k)) → AttachesLive all s
 attaches_live s none firm redundant now all empty firms redundants first second id =
     second id ∙ rw (first id, empty, each_has (firm_at s) firm firms id, each_has (redundant_at s) redundant redundants id) (one_kind (slot s id))
+
+-- a redundant clause was not attached among the firm ones
+pub redundant_fresh : (s : List (Option Stored)) (none firm redundant now : List ℕ) → none ≡ [] → HasEachOnce (firm_at s) firm → HasEachOnce (redundant_at s) redundant → ((k : ℕ) → has now k ≡ (has none k || has firm k))
+    → (id : ℕ) → has redundant id ≡ true → has now id ≡ false
+redundant_fresh s none firm redundant now empty firms redundants first id h =
+    first id ∙ rw (empty, each_has (firm_at s) firm firms id) (redundant_no_firm (slot s id) (sym (each_has (redundant_at s) redundant redundants id) ∙ h))
+
+-- what holds where a result is an `Ok`
+pub on_ok_more : {A E : Type 0} (r : Result A E) (P Q : Type 0) → (P → Q) → OnOk r P → OnOk r Q
+on_ok_more (Ok x) P Q more h = more h
+on_ok_more (Err e) P Q more h = h

@@ -137,7 +137,7 @@ shown_true t m l apart shows on =
           rw e (lit_true-neg (values m) p ∙ rw f refl)
     ]
 
-firm_live : (x : Option Stored) → is_firm x ≡ true → is_some x ≡ true
+pub firm_live : (x : Option Stored) → is_firm x ≡ true → is_some x ≡ true
 firm_live None h = absurd (false≢true h)
 firm_live (Some c) h = refl
 
