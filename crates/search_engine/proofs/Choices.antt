@@ -79,6 +79,9 @@ pub record Decides (old new : Core) (l : ℕ) : Type 0 where
   pub declared : new.trail.declared ≡ old.trail.declared
   pub steps : new.trail.steps ≡ old.trail.steps ++ decision l old.trail.level ∷ []
 
+pub decides : (old : Core) (t : Trace) (l : ℕ) → t.declared ≡ old.trail.declared → t.steps ≡ old.trail.steps ++ decision l old.trail.level ∷ [] → Decides old (record old { trail = t }) l
+decides old t l declared steps = record { store = refl; watches = refl; tally = refl; size = refl; declared = declared; steps = steps }
+
 module _ (assumptions : List ℕ) (old new : Core) (l : ℕ) (d : Decides old new l) where
   pub decided_rooted : Rooted old.store old.trail.steps → Rooted new.store new.trail.steps
   decided_rooted rooted = rw (d.store, d.steps) (rooted_push old.store old.trail.steps (decision l old.trail.level) rooted tt)

@@ -14,7 +14,7 @@ use Rattle.trail_state.specs.Rank.{digit, rank}
 use Rattle.trail_state.proofs.Levels.{decided, below_top}
 use Rattle.trail_state.proofs.Ranks.{rank-bound}
 use Rattle.rooted_trails.specs.Rooted.{RootedBy, RootedAt, Rooted}
-use Rattle.watch_lists.specs.Propagation.{follows, Grown, IsImplied, AllReady}
+use Rattle.watch_lists.specs.Propagation.{Watching, follows, Grown, IsImplied, AllReady}
 use Rattle.watch_lists.proofs.Growing.{reason_kept}
 use Rattle.search_engine.specs.declared.state.Core.{Core}
 use Rattle.search_engine.specs.declared.state.Found.{Found}
@@ -90,10 +90,16 @@ pub record Propagates (old new : Core) : Type 0 where
   pub following : IsTrue (follows new.watches old.store new.trail)
   pub grown : Grown old.watches.attached old.store old.trail new.trail
 
-pub ready_all : (assumptions : List ℕ) (c : Core) → IsReady assumptions c → AllReady c.watches.attached c.store c.trail.declared
-ready_all assumptions c ready id h =
-    let live : IsSome (slot c.store id) = sym (ready.attached id) ∙ h in
-    (live, ready.within id live)
+pub propagates : (old : Core) (w : Watching) (t : Trace) → w.attached ≡ old.watches.attached → w.declared ≡ old.watches.declared → IsTrue (follows w old.store t) → Grown old.watches.attached old.store old.trail t → Propagates old (record old { trail = t; watches = w })
+propagates old w t attached declared following grown = record {
+  store = refl;
+  tally = refl;
+  size = refl;
+  attached = attached;
+  declared = declared;
+  following = following;
+  grown = grown;
+}
 
 module _ (assumptions : List ℕ) (old new : Core) (p : Propagates old new) where
   pub propagated_rooted : IsReady assumptions old → Rooted new.store new.trail.steps

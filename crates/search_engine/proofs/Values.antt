@@ -70,9 +70,6 @@ pub has_none : (r : Option Bool) → is_some r ≡ false → r ≡ None
 has_none None h = refl
 has_none (Some b) h = absurd (true≢false h)
 
-pub has_some : (r : Option Bool) → is_some r ≡ true → IsSome r
-has_some r h = h
-
 -- a literal with a value that is not true is false
 pub is_false : (t : List Step) (l : ℕ) → IsSome (value_on t l) → true_on t l ≡ false → true_on t (neg l) ≡ true
 is_false t l some off = elim (valued_cases t l some) [ inl on ↦ absurd (false≢true (sym off ∙ on)) | inr on ↦ on ]

@@ -1,7 +1,7 @@
 use Rattle.std.proofs.Common.{◌≡◌, ◌<◌, ◌≤◌, inl, ap, not, refl, sym, ◌∙◌, arith}
 use Rattle.sat_terms.specs.Literal.{has, var_of}
 use Rattle.watch_lists.proofs.Members.{All-has}
-use Rattle.search_engine.proofs.Choices.{Decides, decides_assumed, decided_next, decided_keeps}
+use Rattle.search_engine.proofs.Choices.{decides, decides_assumed, decided_next, decided_keeps}
 use Rattle.search_engine.proofs.choice.assume.Goals as goal
 
 pub decide-requires-clause-declared : goal.decide-requires-clause-declared
@@ -10,14 +10,12 @@ decide-requires-clause-declared c =
 
 pub returns-then-is_none-clause-turn : goal.returns-then-is_none-clause-turn
 returns-then-is_none-clause-turn c =
-    let d : Decides c.args.core.now (record c.args.core.now { trail = c.decide.new.self }) c.args.lit =
-    record { store = refl; watches = refl; tally = refl; size = refl; declared = c.decide.ensures.declared; steps = c.decide.ensures.steps } in
+    let d = decides c.args.core.now c.decide.new.self c.args.lit c.decide.ensures.declared c.decide.ensures.steps in
     decided_next c.args.assumptions.now _ _ c.args.lit d c.goes_on_following.ensures.appended c.requires.stands (inl c.requires.assumed)
 
 pub returns-then-is_none-clause-keeps : goal.returns-then-is_none-clause-keeps
 returns-then-is_none-clause-keeps c =
-    let d : Decides c.args.core.now (record c.args.core.now { trail = c.decide.new.self }) c.args.lit =
-    record { store = refl; watches = refl; tally = refl; size = refl; declared = c.decide.ensures.declared; steps = c.decide.ensures.steps } in
+    let d = decides c.args.core.now c.decide.new.self c.args.lit c.decide.ensures.declared c.decide.ensures.steps in
     decided_keeps c.args.assumptions.now _ _ c.args.lit d c.requires.stands.ready
 
 pub core_of-requires-clause-decisions : goal.core_of-requires-clause-decisions

@@ -1,19 +1,17 @@
 use Rattle.std.proofs.Common.{◌≡◌, inr, refl, ap, ◌∙◌, arith, length, vec_len}
 use Rattle.std.proofs.lemmas.List.{with_items_is}
 use Rattle.search_engine.proofs.Values.{shown_model, shows_same}
-use Rattle.search_engine.proofs.Choices.{Decides, decided_next, decided_keeps}
+use Rattle.search_engine.proofs.Choices.{decides, decided_next, decided_keeps}
 use Rattle.search_engine.proofs.choice.decide.Goals as goal
 
 pub returns-in-Some-clause-turn : goal.returns-in-Some-clause-turn
 returns-in-Some-clause-turn c =
-    let d : Decides c.args.core.now (record c.args.core.now { trail = c.decide.new.self }) c.in-Some.lit =
-    record { store = refl; watches = refl; tally = refl; size = refl; declared = c.decide.ensures.declared; steps = c.decide.ensures.steps } in
+    let d = decides c.args.core.now c.decide.new.self c.in-Some.lit c.decide.ensures.declared c.decide.ensures.steps in
     decided_next c.args.assumptions.now _ _ c.in-Some.lit d c.goes_on_following.ensures.appended c.requires.stands (inr c.requires.assumed)
 
 pub returns-in-Some-clause-keeps : goal.returns-in-Some-clause-keeps
 returns-in-Some-clause-keeps c =
-    let d : Decides c.args.core.now (record c.args.core.now { trail = c.decide.new.self }) c.in-Some.lit =
-    record { store = refl; watches = refl; tally = refl; size = refl; declared = c.decide.ensures.declared; steps = c.decide.ensures.steps } in
+    let d = decides c.args.core.now c.decide.new.self c.in-Some.lit c.decide.ensures.declared c.decide.ensures.steps in
     decided_keeps c.args.assumptions.now _ _ c.in-Some.lit d c.requires.stands.ready
 
 pub returns-in-None-clause-turn : goal.returns-in-None-clause-turn

@@ -1,27 +1,24 @@
 use Rattle.std.proofs.Common.{◌≡◌, refl}
 use Rattle.search_engine.specs.Turns.{Stands, Passed, TurnIs}
-use Rattle.search_engine.proofs.Looping.{Propagates, ok_more, ok_always, propagated_stands, propagated_passed, propagated_turn}
+use Rattle.search_engine.proofs.Looping.{propagates, ok_more, ok_always, propagated_stands, propagated_passed, propagated_turn}
 use Rattle.search_engine.proofs.search.take_turn.Goals as goal
 
 pub resolve-requires-clause-stands : goal.resolve-requires-clause-stands
 resolve-requires-clause-stands c =
     let e = c.propagate.ensures in
-    let p : Propagates c.args.core.now (record c.args.core.now { trail = c.propagate.new.trail; watches = c.propagate.new.self }) =
-    record { store = refl; tally = refl; size = refl; attached = e.attached; declared = e.declared; following = e.follows; grown = e.grown } in
+    let p = propagates c.args.core.now c.propagate.new.self c.propagate.new.trail e.attached e.declared e.follows e.grown in
     propagated_stands c.args.assumptions.now c.args.core.now _ p c.requires.stands
 
 pub choose-requires-clause-stands : goal.choose-requires-clause-stands
 choose-requires-clause-stands c =
     let e = c.propagate.ensures in
-    let p : Propagates c.args.core.now (record c.args.core.now { trail = c.propagate.new.trail; watches = c.propagate.new.self }) =
-    record { store = refl; tally = refl; size = refl; attached = e.attached; declared = e.declared; following = e.follows; grown = e.grown } in
+    let p = propagates c.args.core.now c.propagate.new.self c.propagate.new.trail e.attached e.declared e.follows e.grown in
     propagated_stands c.args.assumptions.now c.args.core.now _ p c.requires.stands
 
 pub returns-in-Some-clause-turn : goal.returns-in-Some-clause-turn
 returns-in-Some-clause-turn c =
     let e = c.propagate.ensures in
-    let p : Propagates c.args.core.now (record c.args.core.now { trail = c.propagate.new.trail; watches = c.propagate.new.self }) =
-    record { store = refl; tally = refl; size = refl; attached = e.attached; declared = e.declared; following = e.follows; grown = e.grown } in
+    let p = propagates c.args.core.now c.propagate.new.self c.propagate.new.trail e.attached e.declared e.follows e.grown in
     ok_more c.resolve.result _ _ (propagated_turn c.args.assumptions.now c.args.core.now _ c.resolve.new.core p c.requires.stands.ready) c.resolve.ensures.turn
 
 pub returns-in-Some-clause-passed : goal.returns-in-Some-clause-passed
@@ -30,6 +27,5 @@ returns-in-Some-clause-passed c = ok_always c.resolve.result _ (λ turn. c.start
 pub returns-in-None-clause-turn : goal.returns-in-None-clause-turn
 returns-in-None-clause-turn c =
     let e = c.propagate.ensures in
-    let p : Propagates c.args.core.now (record c.args.core.now { trail = c.propagate.new.trail; watches = c.propagate.new.self }) =
-    record { store = refl; tally = refl; size = refl; attached = e.attached; declared = e.declared; following = e.follows; grown = e.grown } in
+    let p = propagates c.args.core.now c.propagate.new.self c.propagate.new.trail e.attached e.declared e.follows e.grown in
     ok_more c.choose.result _ _ (propagated_turn c.args.assumptions.now c.args.core.now _ c.choose.new.core p c.requires.stands.ready) c.choose.ensures.turn
