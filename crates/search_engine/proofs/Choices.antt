@@ -1,15 +1,13 @@
 -- Laws of turns that decide.
-use Rattle.std.proofs.Common.{◌≡◌, ◌≢◌, ℕ, suc, zero, ◌+◌, ◌<◌, ◌≤◌, Bool, true, false, List, [], ◌∷◌, ◌++◌, length, get_or, take, ◌⊎◌, inl, inr, refl, sym, ap, ◌∙◌, subst, arith, Option, Some, None}
-use Rattle.std.specs.Prelude.{IsSome, IsTrue}
-use Rattle.std.proofs.lemmas.Bool.{false≢true, eqb-true}
+use Rattle.std.proofs.Common.{◌≡◌, ℕ, ◌+◌, ◌<◌, true, false, List, [], ◌∷◌, ◌++◌, length, get_or, take, ◌⊎◌, inl, inr, refl, sym, ap, ◌∙◌, arith, Option}
+use Rattle.std.specs.Prelude.{IsTrue}
+use Rattle.std.proofs.lemmas.Bool.{false≢true}
 use Rattle.std.proofs.lemmas.List.{take-append-le, take_at, length_push}
-use Rattle.sat_terms.specs.Literal.{has, neg, var_of, pos_lit}
-use Rattle.sat_terms.specs.Truth.{Assignment}
-use Rattle.sat_terms.specs.Answer.{Within}
-use Rattle.clause_store.specs.Stored.{Stored, StoreTrue}
+use Rattle.sat_terms.specs.Literal.{has, pos_lit}
+use Rattle.clause_store.specs.Stored.{Stored}
 use Rattle.trail_state.specs.declared.trail.Step.{Step}
 use Rattle.trail_state.specs.declared.reason.Reason.TheVariants.{Decision}
-use Rattle.trail_state.specs.Trail.{Trace, step, true_on, value_on}
+use Rattle.trail_state.specs.Trail.{Trace, true_on}
 use Rattle.trail_state.proofs.Changes.{step_old, step_new, old_or_new}
 use Rattle.trail_state.proofs.Ranks.{rank-push}
 use Rattle.rooted_trails.specs.Rooted.{Rooted}
@@ -19,7 +17,7 @@ use Rattle.watch_lists.proofs.Members.{has_more}
 use Rattle.assumption_core.specs.Core.{DecidesAssumed}
 use Rattle.search_engine.specs.declared.state.Core.{Core}
 use Rattle.search_engine.specs.declared.choice.Cursor.{Cursor}
-use Rattle.search_engine.specs.Searching.{StoreWithin, AttachesLive, IsReady, Learns, Keeps}
+use Rattle.search_engine.specs.Searching.{IsReady, Learns, Keeps}
 use Rattle.search_engine.specs.Turns.{AllOn, AssumesFirst, Stands, Rises, Next, Passed}
 use Rattle.search_engine.proofs.Values.{true_in_front, true_longer, valued_longer}
 

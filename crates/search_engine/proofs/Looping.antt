@@ -1,31 +1,29 @@
 -- Laws of turns that propagate, and of what a search keeps from turn to turn.
-use Rattle.std.proofs.Common.{◌≡◌, ◌≢◌, ℕ, suc, zero, ◌+◌, ◌-◌, ◌*◌, ◌^◌, ◌<◌, ◌≤◌, Bool, true, false, List, [], ◌∷◌, ◌++◌, length, get_or, take, ◌⊎◌, inl, inr, refl, sym, ap, ◌∙◌, subst, arith, Option, Some, None, Result, Ok, Err, IfOk}
-use Rattle.std.specs.Prelude.{IsSome, IsTrue, is_some}
-use Rattle.std.proofs.lemmas.Bool.{false≢true, cases_lt}
-use Rattle.std.proofs.lemmas.List.{take-append-le, get_or_append_left, length-append}
-use Rattle.sat_terms.specs.Literal.{has, neg, var_of, pos_lit}
-use Rattle.sat_terms.specs.Truth.{Assignment, values, clause_true}
-use Rattle.clause_store.specs.Stored.{Stored, slot, slot_lits, is_firm, FirmTrue, StoreTrue}
+use Rattle.std.proofs.Common.{◌≡◌, ℕ, suc, zero, ◌-◌, ◌^◌, ◌<◌, ◌≤◌, false, List, [], ◌∷◌, ◌++◌, length, inl, inr, refl, sym, ◌∙◌, arith, Option, None, Result, Ok, Err, IfOk}
+use Rattle.std.specs.Prelude.{IsSome, IsTrue}
+use Rattle.std.proofs.lemmas.Bool.{cases_lt}
+use Rattle.std.proofs.lemmas.List.{take-append-le, get_or_append_left}
+use Rattle.sat_terms.specs.Truth.{Assignment, values}
+use Rattle.clause_store.specs.Stored.{Stored, slot, slot_lits, FirmTrue}
 use Rattle.trail_state.specs.declared.trail.Step.{Step}
 use Rattle.trail_state.specs.declared.reason.Reason.{Reason}
 use Rattle.trail_state.specs.declared.reason.Reason.TheVariants.{Decision, Clause, Theory}
-use Rattle.trail_state.specs.Trail.{Trace, step, no_step, true_on, value_on, IsTrail}
-use Rattle.trail_state.specs.Rank.{digit, rank}
+use Rattle.trail_state.specs.Trail.{Trace, step, no_step, IsTrail}
+use Rattle.trail_state.specs.Rank.{rank}
 use Rattle.trail_state.proofs.Levels.{decided, below_top}
 use Rattle.trail_state.proofs.Ranks.{rank-bound}
 use Rattle.rooted_trails.specs.Rooted.{RootedBy, RootedAt, Rooted}
-use Rattle.watch_lists.specs.Propagation.{Watching, follows, Grown, IsImplied, AllReady}
+use Rattle.watch_lists.specs.Propagation.{Watching, follows, Grown}
 use Rattle.watch_lists.proofs.Growing.{reason_kept}
 use Rattle.search_engine.specs.declared.state.Core.{Core}
 use Rattle.search_engine.specs.declared.state.Found.{Found}
 use Rattle.search_engine.specs.declared.state.Found.TheVariants as found
-use Rattle.search_engine.specs.declared.state.Spent.{Spent}
 use Rattle.search_engine.specs.declared.state.Spent.TheVariants.{Conflicts}
 use Rattle.search_engine.specs.declared.conflict.Turn.{Turn}
 use Rattle.search_engine.specs.declared.conflict.Turn.TheVariants.{Goes, Ends}
 use Rattle.search_engine.specs.declared.choice.Cursor.{Cursor}
-use Rattle.search_engine.specs.Searching.{StoreWithin, AttachesLive, IsReady, Learns, Keeps, FoundIs}
-use Rattle.search_engine.specs.Turns.{AllOn, AssumesFirst, Stands, Rises, Next, Passed, TurnIs}
+use Rattle.search_engine.specs.Searching.{AttachesLive, IsReady, Learns, Keeps, FoundIs}
+use Rattle.search_engine.specs.Turns.{AssumesFirst, Stands, Rises, Passed, TurnIs}
 use Rattle.search_engine.proofs.Choices.{learns_same, passed_longer}
 
 -- what holds of the value of an `Ok`

@@ -1,22 +1,22 @@
 -- Laws of the values on a trail, and of the model that shows them.
-use Rattle.std.proofs.Common.{◌≡◌, ◌≢◌, ℕ, suc, zero, ◌+◌, ◌-◌, ◌*◌, ◌%◌, ◌<◌, ◌≤◌, Bool, true, false, cond, not, ◌||◌, eqb, List, [], ◌∷◌, ◌++◌, length, get_or, set, take, drop, ◌⊎◌, inl, inr, refl, sym, ap, ◌∙◌, subst, arith, Option, Some, None}
-use Rattle.std.specs.Prelude.{IsSome, is_some, All}
+use Rattle.std.proofs.Common.{◌≡◌, ◌≢◌, ℕ, suc, zero, ◌+◌, ◌-◌, ◌%◌, ◌<◌, ◌≤◌, Bool, true, false, cond, not, ◌||◌, eqb, List, [], ◌∷◌, ◌++◌, length, get_or, set, take, drop, ◌⊎◌, inl, inr, refl, sym, ap, ◌∙◌, subst, arith, Option, Some, None}
+use Rattle.std.specs.Prelude.{IsSome, is_some}
 use Rattle.std.specs.Option.{option_eq}
 use mathlib.Core.Bool.{beq}
-use Rattle.std.proofs.lemmas.Bool.{false≢true, true≢false, cases_eq, cases_Bool, or_cases, or_left, or_right, or_from, eqb-true, eq-eqb, ne_eqb, false_from_ne_true}
+use Rattle.std.proofs.lemmas.Bool.{false≢true, true≢false, cases_eq, or_cases, or_left, or_right, eqb-true, eq-eqb, ne_eqb, false_from_ne_true}
 use Rattle.std.proofs.lemmas.List.{take-append-drop, get_or_past, length-map}
 use Rattle.std.proofs.lemmas.List.Folds.{list_any-append, list_any_more}
 use Rattle.sat_terms.specs.Literal.{has, neg, var_of, pos_lit}
-use Rattle.sat_terms.specs.Truth.{Assignment, values, lit_true, clause_true, lits_true}
-use Rattle.sat_terms.specs.Answer.{Within, IsModel}
+use Rattle.sat_terms.specs.Truth.{Assignment, values, lit_true, lits_true}
+use Rattle.sat_terms.specs.Answer.{IsModel}
 use Rattle.sat_terms.proofs.Literals.{neg-neg, neg-other, same_var, var_of-neg, var_of-pos_lit}
 use Rattle.sat_terms.proofs.Truths.{lit_true-neg, clause_true-from}
-use Rattle.sat_terms.proofs.Models.{values_zero, values_past, values_at, values-set, lit_true_pos}
+use Rattle.sat_terms.proofs.Models.{values_zero, values_at, values-set, lit_true_pos}
 use Rattle.clause_store.specs.Stored.{Stored, slot, slot_lits, is_firm, FirmTrue}
 use Rattle.trail_state.specs.declared.trail.Step.{Step}
 use Rattle.trail_state.specs.Trail.{step, no_step, lits_of, true_on, value_on, IsApart}
-use Rattle.trail_state.specs.Clauses.{FalseOn, IsQuiet}
-use Rattle.trail_state.proofs.Places.{place_of_true, true_at_place, lit_read}
+use Rattle.trail_state.specs.Clauses.{FalseOn}
+use Rattle.trail_state.proofs.Places.{place_of_true, lit_read}
 use Rattle.watch_lists.specs.Propagation.{AllQuiet}
 use Rattle.watch_lists.proofs.Members.{All-has}
 use Rattle.search_engine.specs.Searching.{AllValued, Shows, AttachesLive, StoreWithin}

@@ -1,5 +1,5 @@
-use Rattle.std.proofs.Common.{◌≡◌, ◌<◌, ◌≤◌, inl, ap, not, refl, sym, ◌∙◌, arith}
-use Rattle.sat_terms.specs.Literal.{has, var_of}
+use Rattle.std.proofs.Common.{◌≤◌, inl}
+use Rattle.sat_terms.specs.Literal.{var_of}
 use Rattle.watch_lists.proofs.Members.{All-has}
 use Rattle.search_engine.proofs.Choices.{decides, decides_assumed, decided_next, decided_keeps}
 use Rattle.search_engine.proofs.choice.assume.Goals as goal

@@ -1,4 +1,3 @@
-use Rattle.search_engine.specs.Turns.{Passed}
 use Rattle.search_engine.proofs.Looping.{ok_always}
 use Rattle.search_engine.proofs.choice.choose.Goals as goal
 

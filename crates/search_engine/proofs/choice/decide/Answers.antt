@@ -1,4 +1,4 @@
-use Rattle.std.proofs.Common.{◌≡◌, inr, refl, ap, ◌∙◌, arith, length, vec_len}
+use Rattle.std.proofs.Common.{◌≡◌, inr, ap, ◌∙◌, arith, length}
 use Rattle.std.proofs.lemmas.List.{with_items_is}
 use Rattle.search_engine.proofs.Values.{shown_model, shows_same}
 use Rattle.search_engine.proofs.Choices.{decides, decided_next, decided_keeps}

@@ -1,7 +1,6 @@
-use Rattle.std.proofs.Common.{rules, ◌≡◌, ◌+◌, ℕ, true, length, take, sym, ◌∙◌, refl, arith}
+use Rattle.std.proofs.Common.{sym, ◌∙◌}
 use Rattle.std.proofs.lemmas.List.{take_all}
 use Rattle.watch_lists.proofs.Members.{has_at}
-use Rattle.search_engine.specs.Turns.{AllOn, Passed}
 use Rattle.search_engine.proofs.Values.{not_true, is_true}
 use Rattle.search_engine.proofs.Choices.{all_on_more}
 use Rattle.search_engine.proofs.choice.next_assumption.Goals as goal

@@ -1,4 +1,4 @@
-use Rattle.std.proofs.Common.{◌≡◌, ◌<◌, ◌≤◌, ap, sym, not, ◌∙◌, arith}
+use Rattle.std.proofs.Common.{◌≡◌, ap, sym, not, ◌∙◌, arith}
 use Rattle.sat_terms.specs.Literal.{var_of}
 use Rattle.sat_terms.proofs.Literals.{var_of-pos_lit}
 use Rattle.search_engine.proofs.Values.{has_none}

@@ -1,4 +1,4 @@
-use Rattle.std.proofs.Common.{◌≡◌, refl, ap}
+use Rattle.std.proofs.Common.{refl, ap}
 use Rattle.search_engine.proofs.Choices.{keeps_same}
 use Rattle.search_engine.proofs.Looping.{started_stands, found_before, measure_falls}
 use Rattle.search_engine.proofs.search.search.Goals as goal

@@ -1,6 +1,4 @@
-use Rattle.std.proofs.Common.{◌≡◌, refl}
-use Rattle.search_engine.specs.Turns.{Stands, Passed, TurnIs}
-use Rattle.search_engine.proofs.Looping.{propagates, ok_more, ok_always, propagated_stands, propagated_passed, propagated_turn}
+use Rattle.search_engine.proofs.Looping.{propagates, ok_more, ok_always, propagated_stands, propagated_turn}
 use Rattle.search_engine.proofs.search.take_turn.Goals as goal
 
 pub resolve-requires-clause-stands : goal.resolve-requires-clause-stands

@@ -1,5 +1,4 @@
-use Rattle.std.proofs.Common.{◌≡◌, ◌≤◌, true, false, sym, ◌∙◌, arith}
-use Rattle.clause_store.specs.Listing.{firm_at, redundant_at}
+use Rattle.std.proofs.Common.{sym, ◌∙◌, arith}
 use Rattle.clause_store.specs.Stored.{slot}
 use Rattle.search_engine.proofs.Values.{firm_live}
 use Rattle.search_engine.proofs.Readying.{each_has, each_once, redundant_live, redundant_fresh, attaches_live, on_ok_more}
