@@ -1,7 +1,5 @@
 //! Learning from a conflict.
-ghost use Rattle.std.specs.Prelude.{◌≡◌, ◌<◌, ℕ, OnOk, IfOk, IfErr, IsSome, false, None};
-ghost use Rattle.std.specs.List.Sorted.{IsStrictlyIncreasing};
-ghost use Rattle.sat_terms.specs.Literal.{has};
+ghost use Rattle.std.specs.Prelude.{◌≡◌, ◌<◌, OnOk, IfOk, IfErr, IsSome, false, None};
 ghost use Rattle.sat_terms.specs.Normal.{IsNormal};
 ghost use Rattle.redundancy.specs.Redundancy.{Implies};
 ghost use Rattle.clause_store.specs.Stored.{slot, slot_lits, StoreTrue};
@@ -13,6 +11,7 @@ use crate::levels::{glue, highest};
 use crate::resolvent::Resolvent;
 use crate::tally::Tally;
 use clause_store::store::Store;
+use normal_form::forms::rise;
 use sat_model::lists::{ClauseId, Lits};
 use sat_model::literal::Lit;
 use sat_model::memory::Memory;
@@ -117,14 +116,4 @@ fn learn(alloc: Global, store: &Store, trail: &Trail, conflict: ClauseId) -> Res
         glue,
     };
     Ok(Lesson { learned, owed })
-}
-
-// Puts the literals in rising order and drops repeats.
-fn rise(lits: &mut Vec<Lit>) -> Result<(), Memory>
-    ensures rising { OnOk result (IsStrictlyIncreasing lits.new.items) }
-    ensures same { OnOk result ((l : ℕ) → has lits.new.items l ≡ has lits.old.items l) }
-{
-    lits.sort()?;
-    lits.dedup();
-    Ok(())
 }

@@ -2,8 +2,8 @@ use Rattle.std.proofs.Common.{sym, ◌∙◌, eqb}
 use Rattle.std.proofs.lemmas.List.Filters.{dedup_is}
 use Rattle.std.proofs.lemmas.List.Sorted.{list_any-IsPermutation}
 use Rattle.std.proofs.lemmas.Map.Keys.{IsStrictlyIncreasing-dedup}
-use Rattle.conflict_analysis.proofs.Normals.{has-dedup}
-use Rattle.conflict_analysis.proofs.analysis.rise.Goals as goal
+use Rattle.normal_form.proofs.Members.{has-dedup}
+use Rattle.normal_form.proofs.forms.rise.Goals as goal
 
 pub returns-clause-rising : goal.returns-clause-rising
 returns-clause-rising c = rw (dedup_is eqb _ _ c.dedup.ensures.filtered) (IsStrictlyIncreasing-dedup _ c.in_ok-sort.ensures.sorted)
