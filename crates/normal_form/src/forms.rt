@@ -1,5 +1,5 @@
 //! Clauses in normal form.
-ghost use Rattle.std.specs.Prelude.{◌≡◌, ℕ, true, false, OnOk, IfOk, IfSome, IfNone};
+ghost use Rattle.std.specs.Prelude.{◌≡◌, ℕ, true, false, OnOk, OnErr, IfOk, IfSome, IfNone};
 ghost use Rattle.std.specs.List.Sorted.{IsStrictlyIncreasing};
 ghost use Rattle.sat_terms.specs.Literal.{has};
 ghost use Rattle.sat_terms.specs.Normal.{IsNormal};
@@ -10,10 +10,11 @@ use sat_model::literal::Lit;
 use sat_model::memory::Memory;
 use std::alloc::Global;
 
-/// Puts literals in rising order and drops repeats, in place. After `Memory` nothing is said of their order.
+/// Puts literals in rising order and drops repeats, in place. After `Memory` they stand as before.
 pub fn rise(lits: &mut Vec<Lit>) -> Result<(), Memory>
     ensures rising { OnOk result (IsStrictlyIncreasing lits.new.items) }
     ensures same { OnOk result ((l : ℕ) → has lits.new.items l ≡ has lits.old.items l) }
+    ensures err { OnErr result (lits.new.items ≡ lits.old.items) }
 {
     lits.sort()?;
     lits.dedup();

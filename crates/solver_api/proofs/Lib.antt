@@ -1,3 +1,4 @@
 pub mod PartLemmas
+pub mod EngineLemmas
 pub mod Lists
 pub mod StandingLemmas

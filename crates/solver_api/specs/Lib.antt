@@ -1,5 +1,5 @@
 pub mod Given
+pub mod Held
 pub mod Standing
 pub mod Steps
 pub mod Finds
-pub mod Once

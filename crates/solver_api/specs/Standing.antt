@@ -1,14 +1,26 @@
 -- What holds of every solver between two calls.
-use Rattle.std.specs.Prelude.{◌≡◌, ℕ, ◌^◌, ◌≤◌, Bool, true, List, [], All}
+use Rattle.std.specs.Prelude.{◌≡◌, ℕ, ◌^◌, ◌≤◌, Bool, true, List, []}
+use Rattle.sat_terms.specs.Truth.{Assignment}
 use Rattle.sat_terms.specs.Answer.{Within, NoModel, IsModel}
+use Rattle.clause_store.specs.Stored.{FirmTrue, StoreTrue}
+use Rattle.search_engine.specs.Searching.{StoreWithin}
 use Rattle.solver_api.specs.declared.givens.GivenPart.{GivenPart}
 use Rattle.solver_api.specs.declared.mode.Mode.{Mode}
 use Rattle.solver_api.specs.declared.mode.Mode.TheVariants.{Sat, Unsat}
-use Rattle.solver_api.specs.Given.{GivenTrue, clauses_in}
+use Rattle.solver_api.specs.Given.{GivenTrue}
+use Rattle.solver_api.specs.Held.{Held}
 
-pub record Stands (given : List GivenPart) (pending queried : List ℕ) (taken greatest : ℕ) (settled : Bool) (mode : Mode) : Type 0 where
-  -- every variable of a clause or an assumption is at most the greatest named one
-  pub given_within : All (Within greatest) (clauses_in given)
+-- The stored clauses stand for what was given: what makes this true makes them all true, and what makes the firm ones true makes it
+-- true. Their variables are among the first n, and no more are declared.
+pub record StandsFor (held : Held) (given : List GivenPart) (n : ℕ) : Type 0 where
+  pub follows : (f : Assignment) → GivenTrue given f → StoreTrue held.store f
+  pub suffices : (f : Assignment) → FirmTrue held.store f → GivenTrue given f
+  pub within : StoreWithin n held.store
+  pub declared : held.declared ≤ n
+
+pub record Stands (engine : Held) (given : List GivenPart) (pending queried : List ℕ) (taken greatest : ℕ) (settled : Bool) (mode : Mode) : Type 0 where
+  pub stored : StandsFor engine given greatest
+  -- every variable of an assumption is at most the greatest named one
   pub pending_within : Within greatest pending
   pub few : greatest ≤ 4194303
   pub room : taken ≤ 2 ^ 27

@@ -6,9 +6,8 @@ use sat_model::constraint::Kind;
 use sat_model::lists::Lits;
 use sat_model::literal::Lit;
 use sat_model::memory::Memory;
-use thiserror::Error;
-
 pub use search_engine::state::{Budget, NO_BUDGET, Spent};
+use thiserror::Error;
 
 /// A call that changes a solver.
 #[derive(Drop)]

@@ -1,9 +1,7 @@
 //! The list of what was given.
-ghost use Rattle.std.specs.Prelude.{◌≡◌, ◌==◌, ◌<◌, [], ◌∷◌, ◌++◌, length, OnOk, OnErr, slice_get, Some, All, ◌≤◌, IfOk, IfSome, IfNone};
+ghost use Rattle.std.specs.Prelude.{◌≡◌, ◌==◌, ◌<◌, [], ◌∷◌, ◌++◌, length, take, OnOk, OnErr, slice_get, Some};
 ghost use Rattle.solver_api.specs.declared.givens.GivenPart.TheVariants as parts;
 
-use plain_search::clause_list::ClauseList;
-use plain_search::search::search;
 use sat_model::constraint::Constraint;
 use sat_model::lists::Lits;
 use sat_model::literal::Lit;
@@ -40,8 +38,7 @@ impl Model for Givens {
 }
 
 impl Givens {
-    ghost use Rattle.sat_terms.specs.Answer.{Within, IsModel, NoModel};
-    ghost use Rattle.solver_api.specs.Given.{GivenTrue, IsClause, clauses_in};
+    ghost use Rattle.solver_api.specs.Given.{IsClause};
 
     // The empty list.
     pub(crate) fn new(alloc: Global) -> Givens
@@ -61,21 +58,11 @@ impl Givens {
         Ok(())
     }
 
-    // A model of the parts and the assumptions over the variables 1 to `vars`, if there is one.
-    pub(crate) fn search(
-        &self,
-        alloc: Global,
-        assumed: &[Lit],
-        vars: u32,
-    ) -> Result<Option<Vec<bool>>, Memory>
-        requires few { vars ≤ 4194303 }
-        requires within { All (Within vars) (clauses_in self.now) }
-        requires assumed_within { Within vars assumed.now }
-        ensures model { IfOk result (λ found. IfSome found (λ m. IsModel (GivenTrue self.now) assumed.now vars m.items)) }
-        ensures none { IfOk result (λ found. IfNone found (NoModel (GivenTrue self.now) assumed.now)) }
+    // Takes back what was appended after the first `len` parts.
+    pub(crate) fn truncate(&mut self, len: usize)
+        ensures { self.new ≡ take len self.old }
     {
-        let _parts = &self.parts;
-        search(alloc, self, assumed, vars)
+        self.parts.truncate(len);
     }
 
     /// How many parts there are.
@@ -100,23 +87,5 @@ impl Givens {
         ensures clause { IsClause result.now }
     {
         &self.parts[k]
-    }
-}
-
-impl ClauseList for Givens {
-    ghost use Rattle.solver_api.specs.Given.{clauses_in};
-
-    ghost clauses = { λ g. clauses_in g };
-
-    fn len(&self) -> usize {
-        self.parts.as_slice().len()
-    }
-
-    fn clause(&self, k: usize) -> &[Lit] {
-        let parts = self.parts.as_slice();
-        match &parts[k] {
-            GivenPart::Clause(lits) => lits.as_slice(),
-            GivenPart::Rule(_) => unreachable!(),
-        }
     }
 }

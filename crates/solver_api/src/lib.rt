@@ -2,7 +2,7 @@
 #![tactic(auto)]
 
 pub mod calls;
-mod find;
+mod engine;
 pub mod givens;
 mod literals;
 pub mod mode;

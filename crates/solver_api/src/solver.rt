@@ -1,11 +1,13 @@
 //! The solver.
-ghost use Rattle.std.specs.Prelude.{◌≡◌, ◌≤◌, ◌^◌, ℕ, List, [], Bool, true, All, IfOk, IfErr, Some, None, length};
+ghost use Rattle.std.specs.Prelude.{◌≡◌, ◌≤◌, ◌^◌, ◌∷◌, ◌++◌, ℕ, List, [], Bool, true, IfOk, IfErr, OnOk, OnErr, Some, None, length};
 ghost use Rattle.sat_terms.specs.Answer.{IsModel, NoModel};
-ghost use Rattle.solver_api.specs.Given.{GivenTrue, IsClause};
+ghost use Rattle.solver_api.specs.Given.{GivenTrue};
+ghost use Rattle.solver_api.specs.Held.{Takes};
+ghost use Rattle.solver_api.specs.declared.givens.GivenPart.TheVariants as parts;
 ghost use Rattle.solver_api.specs.Standing.{Stands};
 
 use crate::calls::{Budget, Call, Outcome, Refusal, Reply};
-use crate::find::{Found, find};
+use crate::engine::{Answer, Engine};
 use crate::givens::Givens;
 use crate::literals::{greatest_of, settles, stands_in};
 use crate::mode::{Mode, Values};
@@ -23,6 +25,7 @@ use std::mem;
 /// as before; a solve that was refused has dropped its assumptions, and another call keeps them.
 pub struct Solver {
     alloc: Global,
+    engine: Engine,
     given: Givens,
     pending: Lits,
     queried: Lits,
@@ -30,13 +33,14 @@ pub struct Solver {
     settled: bool,
     greatest: u32,
     mode: Mode,
-    ghost stands: { Stands given pending queried taken greatest settled mode },
+    ghost stands: { Stands engine given pending queried taken greatest settled mode },
 }
 
 impl Drop for Solver {
     fn drop(self) {
         let Solver {
             alloc: _alloc,
+            engine: _engine,
             given: _given,
             pending: _pending,
             queried: _queried,
@@ -45,6 +49,26 @@ impl Drop for Solver {
             greatest: _greatest,
             mode: _mode,
         } = self;
+    }
+}
+
+// Gives a clause to the list and to the engine. After `Memory` both are as before.
+fn give(alloc: Global, given: &mut Givens, engine: &mut Engine, lits: &[Lit]) -> Result<(), Memory>
+    ensures given { OnOk result (given.new ≡ given.old ++ parts.Clause lits.now ∷ []) }
+    ensures takes { OnOk result (Takes engine.old.store engine.new.store lits.now) }
+    ensures declared { engine.new.declared ≡ engine.old.declared }
+    ensures kept { OnErr result (given.new ≡ given.old) }
+    ensures err { OnErr result (engine.new ≡ engine.old) }
+{
+    let before = given.len();
+    let clause = Lits::from_slice(alloc, lits)?;
+    given.push(clause)?;
+    match engine.add(alloc, lits) {
+        Ok(()) => Ok(()),
+        Err(Memory) => {
+            given.truncate(before);
+            Err(Memory)
+        }
     }
 }
 
@@ -58,6 +82,7 @@ impl Solver {
     {
         Ok(Solver {
             alloc,
+            engine: Engine::new(alloc),
             given: Givens::new(alloc),
             pending: Lits::new(alloc),
             queried: Lits::new(alloc),
@@ -80,8 +105,7 @@ impl Solver {
             return Err(Refusal::TooManyLiterals(self.taken + count));
         }
         self.mode = Mode::Input;
-        let clause = Lits::from_slice(self.alloc, lits)?;
-        self.given.push(clause)?;
+        give(self.alloc, &mut self.given, &mut self.engine, lits)?;
         self.greatest = greatest_of(self.greatest, lits);
         self.taken += count;
         self.settled = settles(self.settled, lits);
@@ -121,23 +145,29 @@ impl Solver {
     {
         self.mode = Mode::Input;
         let pending = mem::replace(&mut self.pending, Lits::new(self.alloc));
-        match find(
-            self.alloc,
-            &self.given,
-            pending.as_slice(),
-            self.greatest,
-            self.settled,
-        )? {
-            Found::Model(values) => {
+        if self.settled {
+            self.queried = pending;
+            self.mode = Mode::Unsat(Lits::new(self.alloc));
+            return Ok(Outcome::Unsat);
+        }
+        let answer = self
+            .engine
+            .solve(self.alloc, pending.as_slice(), self.greatest, budget)?;
+        match answer {
+            Answer::Model(values) => {
                 self.queried = pending;
                 self.mode = Mode::Sat(values);
                 Ok(Outcome::Sat)
             }
-            Found::Core(core) => {
+            Answer::Core(core) => {
                 self.queried = pending;
                 self.settled = settles(self.settled, core.as_slice());
                 self.mode = Mode::Unsat(core);
                 Ok(Outcome::Unsat)
+            }
+            Answer::Spent(spent) => {
+                self.queried = pending;
+                Ok(Outcome::Unknown(spent))
             }
         }
     }

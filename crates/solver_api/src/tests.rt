@@ -1,6 +1,6 @@
 //! Tests of a solver.
 
-use crate::calls::{Budget, Call, Outcome, Refusal};
+use crate::calls::{Budget, Call, Outcome, Refusal, Spent};
 use crate::givens::GivenPart;
 use crate::solver::Solver;
 use sat_model::constraint::Kind;
@@ -14,6 +14,12 @@ use std::test::Fail;
 const AMPLE: Budget = Budget {
     conflicts: 1_000_000,
     callbacks: 1_000_000,
+};
+
+// The least budget.
+const NO_CONFLICT: Budget = Budget {
+    conflicts: 0,
+    callbacks: 0,
 };
 
 // The literal that is written as this number.
@@ -31,20 +37,22 @@ fn give(rt: &impl Abort, alloc: Global, solver: &mut Solver, numbers: &[i32]) ->
     Ok(())
 }
 
-// Assumes these numbers and solves: the word `sat` and the model's literals, or the word `unsat` and the core's.
+// Assumes these numbers and solves: the word `sat` and the model's values, the word `unsat` and the core's numbers, or the word
+// `unknown` and the conflicts.
 fn ask(
     rt: &impl Abort,
     alloc: Global,
     solver: &mut Solver,
     numbers: &[i32],
+    budget: Budget,
 ) -> Result<String, Fail> {
     for number in numbers {
         solver.assume(lit(rt, *number))?;
     }
-    match solver.solve(AMPLE, 1000)? {
+    match solver.solve(budget, 1000)? {
         Outcome::Sat => model_text(alloc, solver.model()?),
         Outcome::Unsat => core_text(alloc, solver.core()?),
-        Outcome::Unknown(_) => Ok(String::from_str(alloc, "unknown")?),
+        Outcome::Unknown(Spent::Conflicts(n)) => Ok(format!(in alloc; "unknown {n}")?),
     }
 }
 
@@ -72,8 +80,12 @@ enum Row<'a> {
     Give(&'a [i32]),
     // A query under these assumptions finds this.
     Ask(&'a [i32], &'a str),
+    // A query under these assumptions, within no conflict, finds this.
+    AskWithin(&'a [i32], &'a str),
     // `val` and `failed` of this literal answer so.
     Look(i32, &'a str),
+    // So many assumptions are pending, and so many were queried.
+    Count(usize, usize),
 }
 
 fn run(rt: &impl Abort, alloc: Global, rows: &[Row]) -> Result<(), Fail> {
@@ -82,8 +94,16 @@ fn run(rt: &impl Abort, alloc: Global, rows: &[Row]) -> Result<(), Fail> {
         match row {
             Row::Give(numbers) => give(rt, alloc, &mut solver, numbers)?,
             Row::Ask(numbers, text) => {
-                let found = ask(rt, alloc, &mut solver, numbers)?;
+                let found = ask(rt, alloc, &mut solver, numbers, AMPLE)?;
                 assert_eq!(rt; found.as_str(), *text);
+            }
+            Row::AskWithin(numbers, text) => {
+                let found = ask(rt, alloc, &mut solver, numbers, NO_CONFLICT)?;
+                assert_eq!(rt; found.as_str(), *text);
+            }
+            Row::Count(pending, queried) => {
+                let counts = (solver.assumed().len(), solver.queried().len());
+                assert_eq!(rt; counts, (*pending, *queried));
             }
             Row::Look(number, text) => {
                 let at = lit(rt, *number);
@@ -110,10 +130,33 @@ fn answers_queries(rt: HostRuntime) -> Result<(), Fail> {
         Row::Look(3, "Err(NotSat) Ok(false)"),
         Row::Give(&[-1, 3, 3]),
         Row::Ask(&[], "sat 1 1 1"),
+        Row::Ask(&[3, -1, 3, -2], "unsat -1 -2"),
         Row::Give(&[-1]),
         Row::Give(&[-2]),
         Row::Ask(&[4], "unsat"),
         Row::Ask(&[5], "unsat"),
+    ];
+    run(&rt, rt.alloc(), &rows)
+}
+
+#[test]
+fn stops_at_its_budget(rt: HostRuntime) -> Result<(), Fail> {
+    let rows = [
+        Row::Give(&[1, 2]),
+        Row::Give(&[3, 4]),
+        Row::Give(&[5, 6]),
+        Row::Give(&[-1, -3]),
+        Row::Give(&[-1, -5]),
+        Row::Give(&[-3, -5]),
+        Row::Give(&[-2, -4]),
+        Row::Give(&[-2, -6]),
+        Row::Give(&[-4, -6]),
+        Row::AskWithin(&[7], "unknown 0"),
+        Row::Look(7, "Err(NotSat) Err(NotUnsat)"),
+        Row::Count(0, 1),
+        Row::Ask(&[7, 8], "unsat"),
+        Row::Look(7, "Err(NotSat) Ok(false)"),
+        Row::Count(0, 2),
     ];
     run(&rt, rt.alloc(), &rows)
 }

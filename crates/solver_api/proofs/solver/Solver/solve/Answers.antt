@@ -1,23 +1,63 @@
-use Rattle.std.proofs.Common.{◌≡◌, ◌∙◌, sym, ap, subst, ℕ, Bool, List, length, []}
-use Rattle.std.specs.Prelude.{◌||◌, ◌==◌}
-use Rattle.solver_api.specs.declared.find.Found.{Found}
-use Rattle.solver_api.specs.declared.mode.Mode.TheVariants.{Unsat}
-use Rattle.solver_api.specs.Finds.{Finds}
-use Rattle.solver_api.specs.Standing.{Stands}
-use Rattle.solver_api.proofs.StandingLemmas.{stands_core}
+use Rattle.std.proofs.Common.{◌≡◌, ◌∙◌, refl, Bool, List, length, []}
+use Rattle.std.specs.Prelude.{◌||◌, ◌==◌, true}
+use Rattle.solver_api.specs.Given.{GivenTrue}
+use Rattle.solver_api.proofs.Lists.{empty_core}
+use Rattle.solver_api.proofs.StandingLemmas.{stands_for_learned, model_of_given, core_of_given, stands_searched, stands_model, stands_core}
 use Rattle.solver_api.proofs.solver.Solver.solve.Goals as goal
+
+pub invariant_of-self : goal.invariant_of-self
+invariant_of-self c =
+    let s = c.args.self.now in
+    let settled : s.settled ≡ (s.settled || true) = rw c.if-self.true refl in
+    record {
+      stands = rw (c.replace-pending.ensures.after ∙ c.new.ensures, c.replace-pending.ensures.value, c.new-then-self.ensures, settled)
+          (stands_core s.engine s.given s.pending s.queried s.taken s.greatest s.settled s.mode s.stands s.engine [] s.stands.stored (s.stands.hopeless c.if-self.true));
+    }
+
+pub returns-then-self : goal.returns-then-self
+returns-then-self c =
+    let s = c.args.self.now in
+    let settled : s.settled ≡ (s.settled || true) = rw c.if-self.true refl in
+    ([], empty_core (GivenTrue s.given) s.pending [] refl (s.stands.hopeless c.if-self.true), λ _. refl, cc)
+
+pub invariant_of-self-in-Break-1 : goal.invariant_of-self-in-Break-1
+invariant_of-self-in-Break-1 c =
+    let s = c.args.self.now in
+    let stored = stands_for_learned s.engine c.solve.new.self s.given s.greatest c.solve.ensures.learns c.solve.ensures.within c.solve.ensures.declared s.stands.stored in
+    record {
+      stands = rw (c.replace-pending.ensures.after ∙ c.new.ensures)
+          (stands_searched s.engine s.given s.pending s.queried s.taken s.greatest s.settled s.mode s.stands c.solve.new.self s.queried stored);
+    }
+
+pub invariant_of-self-in-Model : goal.invariant_of-self-in-Model
+invariant_of-self-in-Model c =
+    let s = c.args.self.now in
+    let stored = stands_for_learned s.engine c.solve.new.self s.given s.greatest c.solve.ensures.learns c.solve.ensures.within c.solve.ensures.declared s.stands.stored in
+    let found = rw (c.in-Model.is, c.as_slice.ensures, c.replace-pending.ensures.value) at c.in_ok-answer.ensures.finds in
+    record {
+      stands = rw (c.replace-pending.ensures.after ∙ c.new.ensures, c.replace-pending.ensures.value)
+          (stands_model s.engine s.given s.pending s.queried s.taken s.greatest s.settled s.mode s.stands c.solve.new.self c.in-Model.values stored
+          (model_of_given s.engine s.given s.greatest s.pending c.in-Model.values s.stands.stored found));
+    }
 
 pub invariant_of-self-in-Core : goal.invariant_of-self-in-Core
 invariant_of-self-in-Core c =
     let s = c.args.self.now in
     let core = c.in-Core.core in
-    let F : Found → Type 0 = λ found. Finds s.given c.as_slice.result.now s.greatest s.settled found in
-    let found = subst F c.in-Core.is c.in_ok-values.ensures in
-    let settled : c.settles-self.result ≡ (s.settled || (length core == 0)) = c.settles-self.ensures ∙ ap (λ x. s.settled || (length x == 0)) c.as_slice-in-Core.ensures in
-    let P : List ℕ → Type 0 = λ pending. Stands s.given pending c.replace-pending.result s.taken s.greatest c.settles-self.result (Unsat core) in
-    let Q : List ℕ → Type 0 = λ queried. Stands s.given [] queried s.taken s.greatest c.settles-self.result (Unsat core) in
-    let B : Bool → Type 0 = λ b. Stands s.given [] s.pending s.taken s.greatest b (Unsat core) in
+    let stored = stands_for_learned s.engine c.solve.new.self s.given s.greatest c.solve.ensures.learns c.solve.ensures.within c.solve.ensures.declared s.stands.stored in
+    let found = rw (c.in-Core.is, c.as_slice.ensures, c.replace-pending.ensures.value) at c.in_ok-answer.ensures.finds in
+    let settled = rw c.as_slice-in-Core.ensures at c.settles-self.ensures in
     record {
-      stands = subst P (sym (c.replace-pending.ensures.after ∙ c.new.ensures)) (subst Q (sym c.replace-pending.ensures.value) (subst B (sym settled)
-          (stands_core s.given s.pending s.queried s.taken s.greatest s.settled s.mode core s.stands found.0.none)));
+      stands = rw (c.replace-pending.ensures.after ∙ c.new.ensures, c.replace-pending.ensures.value, settled)
+          (stands_core s.engine s.given s.pending s.queried s.taken s.greatest s.settled s.mode s.stands c.solve.new.self core stored
+          (core_of_given s.engine s.given s.greatest s.pending core s.stands.stored found).none);
+    }
+
+pub invariant_of-self-in-Spent : goal.invariant_of-self-in-Spent
+invariant_of-self-in-Spent c =
+    let s = c.args.self.now in
+    let stored = stands_for_learned s.engine c.solve.new.self s.given s.greatest c.solve.ensures.learns c.solve.ensures.within c.solve.ensures.declared s.stands.stored in
+    record {
+      stands = rw (c.replace-pending.ensures.after ∙ c.new.ensures)
+          (stands_searched s.engine s.given s.pending s.queried s.taken s.greatest s.settled s.mode s.stands c.solve.new.self c.replace-pending.result stored);
     }

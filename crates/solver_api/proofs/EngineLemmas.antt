@@ -1,0 +1,47 @@
+-- What stores say once they took a clause, and once they have learned.
+use Rattle.std.proofs.Common.{◌≡◌, ◌≢◌, ◌≤◌, ℕ, true, List, Option, Some, None, inl, inr, refl, sym, ap, ◌∙◌, subst}
+use Rattle.std.specs.Prelude.{IsSome}
+use Rattle.std.proofs.lemmas.Bool.{cases_eq, false≢true}
+use Rattle.sat_terms.specs.Literal.{var_of}
+use Rattle.sat_terms.specs.Truth.{Assignment, clause_true}
+use Rattle.sat_terms.specs.Answer.{Within}
+use Rattle.normal_form.specs.Forms.{IsTautology, SameLits, IsFormOf}
+use Rattle.normal_form.proofs.FormTruths.{true_same, true_back, tautology_true, all_same}
+use Rattle.clause_store.specs.declared.stored.Keep.TheVariants.{Firm}
+use Rattle.clause_store.specs.Stored.{Stored, slot, slot_lits, is_firm, SlotTrue, FirmTrue, StoreTrue, Fills}
+use Rattle.clause_store.proofs.Slots.{FirmTrue-filled, FirmTrue-before, StoreTrue-filled}
+use Rattle.search_engine.specs.Searching.{StoreWithin, Learns}
+use Rattle.solver_api.specs.Held.{Takes}
+
+-- a tautology is not stored
+pub takes_none : (s : List (Option Stored)) (lits : List ℕ) → IsTautology lits → Takes s s lits
+takes_none s lits t = record {
+  firm = λ f h. (h, tautology_true f lits t);
+  from_firm = λ f h here. h;
+  all = λ f h here. h;
+  within = λ n w here. w;
+}
+
+-- the normal form is stored
+pub takes_form : (old new : List (Option Stored)) (id : ℕ) (form lits : List ℕ) → IsFormOf form lits → Fills old new id (record { lits = form; keep = Firm; glue = 0 }) → Takes old new lits
+takes_form old new id form lits is fills = record {
+  firm = λ f h. let b = FirmTrue-before f fills h in (b.0, true_same f form lits is.same (b.1 refl));
+  from_firm = λ f h here. FirmTrue-filled f fills h (λ e. true_back f form lits is.same here);
+  all = λ f h here. StoreTrue-filled f fills h (true_back f form lits is.same here);
+  within = λ n w here j live.
+      elim (cases_eq j id) [
+        | inl e ↦ subst (λ x. Within n (slot_lits x)) (sym (ap (slot new) e ∙ fills.filled)) (all_same (λ l. (1 ≤ var_of l) × (var_of l ≤ n)) form lits is.same here)
+        | inr other ↦ subst (λ x. Within n (slot_lits x)) (sym (fills.others j other)) (w j (subst (λ x. IsSome x) (fills.others j other) live))
+      ];
+}
+
+-- what makes the firm clauses true did before
+firm_slot : (x y : Option Stored) (f : Assignment) → (is_firm x ≡ true → y ≡ x) → SlotTrue f y → SlotTrue f x
+firm_slot x y f same h e = subst (λ z. clause_true f (slot_lits z) ≡ true) (same e) (h (subst (λ z. is_firm z ≡ true) (sym (same e)) e))
+
+pub firm_before : (old new : List (Option Stored)) → Learns old new → (f : Assignment) → FirmTrue new f → FirmTrue old f
+firm_before old new l f h id = firm_slot (slot old id) (slot new id) f (l.firm id) (h id)
+
+-- a store learns nothing from itself
+pub learns_none : (s : List (Option Stored)) → Learns s s
+learns_none s = record { firm = λ id e. refl; no_more = λ id e. refl; implied = λ f h. h }
