@@ -1,7 +1,5 @@
 //! What a search works on, and what it finds.
-ghost use Rattle.std.specs.Prelude.{◌≡◌, ◌≤◌, ◌^◌, [], OnOk, length};
-ghost use Rattle.trail_state.specs.Trail.{Trace};
-ghost use Rattle.watch_lists.specs.Propagation.{follows};
+ghost use Rattle.std.specs.Prelude.{◌≡◌, []};
 
 use clause_store::store::Store;
 use conflict_analysis::tally::Tally;
