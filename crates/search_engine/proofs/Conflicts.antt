@@ -1,11 +1,10 @@
 -- What a learned clause changes.
-use Rattle.std.proofs.Common.{◌≡◌, ◌≢◌, ℕ, suc, zero, ◌<◌, ◌≤◌, Bool, true, false, ◌||◌, eqb, List, [], ◌∷◌, ◌++◌, length, get_or, take, ◌⊎◌, inl, inr, refl, sym, ap, ◌∙◌, subst, arith, Option, Some, None}
-use Rattle.std.specs.Prelude.{IsSome, is_some, IsTrue, All}
+use Rattle.std.proofs.Common.{◌≡◌, ◌≢◌, ℕ, suc, zero, ◌<◌, ◌≤◌, true, false, ◌||◌, eqb, List, [], ◌∷◌, ◌++◌, length, get_or, take, inl, inr, refl, sym, ap, ◌∙◌, subst, arith, Option, Some, None}
+use Rattle.std.specs.Prelude.{IsSome, IsTrue}
 use Rattle.std.proofs.lemmas.Bool.{false≢true, cases_eq, or_left, or_right, eq-eqb, ne_eqb}
 use Rattle.std.proofs.lemmas.List.{length-take-le, take-take, take-append-le}
 use Rattle.std.proofs.Math.Bool.{or-false}
 use Rattle.sat_terms.specs.Literal.{has, neg, var_of}
-use Rattle.sat_terms.specs.Truth.{Assignment}
 use Rattle.sat_terms.specs.Answer.{Within, IsSubsequence, IsCore}
 use Rattle.sat_terms.proofs.Literals.{var_of-neg}
 use Rattle.redundancy.specs.Redundancy.{Implies}
@@ -29,7 +28,7 @@ use Rattle.conflict_analysis.proofs.Highests.{level_here}
 use Rattle.conflict_analysis.proofs.Returns.{false_kept, back_frees}
 use Rattle.search_engine.specs.declared.state.Core.{Core}
 use Rattle.search_engine.specs.Searching.{StoreWithin, AttachesLive, IsReady, Learns, Keeps}
-use Rattle.search_engine.specs.Turns.{AllOn, AssumesFirst, Jumped}
+use Rattle.search_engine.specs.Turns.{AssumesFirst, Jumped}
 use Rattle.search_engine.proofs.Jumps.{jumped_from}
 
 -- the variables of a false clause are declared

@@ -1,7 +1,7 @@
 -- A decision and all behind it give way to one implied literal.
 use Rattle.std.proofs.Common.{◌≡◌, ◌≢◌, ℕ, ◌+◌, ◌<◌, ◌≤◌, List, [], ◌∷◌, ◌++◌, length, take, drop, inl, inr, refl, sym, ap, ◌∙◌, subst, arith}
 use Rattle.std.proofs.lemmas.Bool.{cases_lt}
-use Rattle.std.proofs.lemmas.List.{length-take-le, take-take, drop_more, take-append-drop, length_push}
+use Rattle.std.proofs.lemmas.List.{take-take, drop_more, take-append-drop, length_push}
 use Rattle.trail_state.specs.declared.trail.Step.{Step}
 use Rattle.trail_state.specs.declared.reason.Reason.{Reason}
 use Rattle.trail_state.specs.declared.reason.Reason.TheVariants.{Decision, Clause, Theory}
