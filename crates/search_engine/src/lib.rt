@@ -6,3 +6,5 @@ mod conflict;
 mod ready;
 pub mod search;
 pub mod state;
+#[cfg(test)]
+mod tests;

@@ -81,13 +81,14 @@ impl Core {
         attach_all(&mut self.watches, &self.store, self.store.redundant_ids())
     }
 
-    /// Goes back to the root, where the trail still has its reasons. `prepare` makes the core ready for another search.
+    /// Goes back to the root, where the trail still has its reasons; clauses and model stay. `prepare` makes the core ready for another search.
     pub fn rest(&mut self)
         requires { Rooted self.old.store self.old.trail.steps }
         ensures rooted { Rooted self.new.store self.new.trail.steps }
         ensures level { self.new.trail.level ≡ 0 }
         ensures declared { self.new.trail.declared ≡ self.old.trail.declared }
         ensures store { self.new.store ≡ self.old.store }
+        ensures model { self.new.model.items ≡ self.old.model.items }
     {
         self.trail.back_to(0);
     }
