@@ -28,7 +28,7 @@ fn lit(n: i32) -> Result<Lit, Fail>
 {
     let lit = Lit::new(n).ok_or("no literal")?;
     if lit.var().index() > 3 {
-        Err("too great a variable")?;
+        return Err("too great a variable")?;
     }
     Ok(lit)
 }
@@ -55,7 +55,7 @@ fn add(core: &mut Core, pair: (i32, i32)) -> Result<(), Fail>
     let low = lit(pair.0)?;
     let high = lit(pair.1)?;
     if low.var().index() >= high.var().index() {
-        Err("the variables do not rise")?;
+        return Err("the variables do not rise")?;
     }
     core.store.add(&[low, high], Keep::Firm, 0)?;
     Ok(())
