@@ -1,16 +1,16 @@
 -- What stores say once they took a clause, and once they have learned.
-use Rattle.std.proofs.Common.{◌≡◌, ◌≢◌, ◌≤◌, ℕ, true, List, Option, Some, None, inl, inr, refl, sym, ap, ◌∙◌, subst}
+use Rattle.std.proofs.Common.{◌≡◌, ◌≤◌, ℕ, true, List, Option, inl, inr, refl, sym, ap, ◌∙◌, subst}
 use Rattle.std.specs.Prelude.{IsSome}
-use Rattle.std.proofs.lemmas.Bool.{cases_eq, false≢true}
+use Rattle.std.proofs.lemmas.Bool.{cases_eq}
 use Rattle.sat_terms.specs.Literal.{var_of}
 use Rattle.sat_terms.specs.Truth.{Assignment, clause_true}
 use Rattle.sat_terms.specs.Answer.{Within}
-use Rattle.normal_form.specs.Forms.{IsTautology, SameLits, IsFormOf}
+use Rattle.normal_form.specs.Forms.{IsTautology, IsFormOf}
 use Rattle.normal_form.proofs.FormTruths.{true_same, true_back, tautology_true, all_same}
 use Rattle.clause_store.specs.declared.stored.Keep.TheVariants.{Firm}
-use Rattle.clause_store.specs.Stored.{Stored, slot, slot_lits, is_firm, SlotTrue, FirmTrue, StoreTrue, Fills}
+use Rattle.clause_store.specs.Stored.{Stored, slot, slot_lits, is_firm, SlotTrue, FirmTrue, Fills}
 use Rattle.clause_store.proofs.Slots.{FirmTrue-filled, FirmTrue-before, StoreTrue-filled}
-use Rattle.search_engine.specs.Searching.{StoreWithin, Learns}
+use Rattle.search_engine.specs.Searching.{Learns}
 use Rattle.solver_api.specs.Held.{Takes}
 
 -- a tautology is not stored

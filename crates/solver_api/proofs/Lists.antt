@@ -1,5 +1,5 @@
 -- The greatest variable, and the empty core.
-use Rattle.std.proofs.Common.{◌≡◌, ◌∙◌, sym, ap, refl, subst, arith, inl, ℕ, ◌+◌, ◌<◌, ◌≤◌, List, [], ◌∷◌, length, drop, get_or, zero, suc}
+use Rattle.std.proofs.Common.{◌≡◌, sym, ap, refl, subst, arith, inl, ℕ, ◌+◌, ◌<◌, ◌≤◌, List, [], ◌∷◌, length, drop, get_or, zero, suc}
 use Rattle.std.specs.Prelude.{All, max}
 use Rattle.sat_terms.specs.Literal.{var_of}
 use Rattle.sat_terms.specs.Truth.{Assignment}

@@ -1,12 +1,11 @@
 -- What a call leaves standing.
-use Rattle.std.proofs.Common.{◌≡◌, sym, refl, subst, arith, ⊎_elim, ℕ, ◌≤◌, ◌^◌, Bool, true, false, List, [], ◌∷◌, ◌++◌, length, Option}
-use Rattle.std.specs.Prelude.{All, ◌||◌, ◌==◌}
+use Rattle.std.proofs.Common.{◌≡◌, refl, subst, arith, ⊎_elim, ℕ, ◌≤◌, ◌^◌, Bool, true, List, [], ◌∷◌, ◌++◌, length}
+use Rattle.std.specs.Prelude.{◌||◌, ◌==◌}
 use Rattle.std.proofs.lemmas.Bool.{false≢true, or_cases, eqb-true}
 use Rattle.std.proofs.lemmas.List.Elements.{All-weaker}
 use Rattle.sat_terms.specs.Literal.{var_of}
-use Rattle.sat_terms.specs.Truth.{Assignment}
 use Rattle.sat_terms.specs.Answer.{Within, NoModel, IsModel, IsCore}
-use Rattle.clause_store.specs.Stored.{Stored, FirmTrue, StoreTrue, slot, slot_lits}
+use Rattle.clause_store.specs.Stored.{FirmTrue, StoreTrue, slot, slot_lits}
 use Rattle.search_engine.specs.Searching.{StoreWithin, Learns}
 use Rattle.solver_api.specs.declared.givens.GivenPart.{GivenPart}
 use Rattle.solver_api.specs.declared.givens.GivenPart.TheVariants.{Clause}

@@ -16,12 +16,6 @@ const AMPLE: Budget = Budget {
     callbacks: 1_000_000,
 };
 
-// The least budget.
-const NO_CONFLICT: Budget = Budget {
-    conflicts: 0,
-    callbacks: 0,
-};
-
 // The literal that is written as this number.
 fn lit(rt: &impl Abort, number: i32) -> Lit {
     Lit::new(number).expect(rt, "a literal")
@@ -37,18 +31,22 @@ fn give(rt: &impl Abort, alloc: Global, solver: &mut Solver, numbers: &[i32]) ->
     Ok(())
 }
 
-// Assumes these numbers and solves: the word `sat` and the model's values, the word `unsat` and the core's numbers, or the word
-// `unknown` and the conflicts.
+// Assumes these numbers and solves within so many conflicts: the word `sat` and the model's values, the word `unsat` and the core's
+// numbers, or the word `unknown` and the conflicts that were counted.
 fn ask(
     rt: &impl Abort,
     alloc: Global,
     solver: &mut Solver,
     numbers: &[i32],
-    budget: Budget,
+    conflicts: u32,
 ) -> Result<String, Fail> {
     for number in numbers {
         solver.assume(lit(rt, *number))?;
     }
+    let budget = Budget {
+        conflicts: u64::from(conflicts),
+        callbacks: 0,
+    };
     match solver.solve(budget, 1000)? {
         Outcome::Sat => model_text(alloc, solver.model()?),
         Outcome::Unsat => core_text(alloc, solver.core()?),
@@ -94,11 +92,11 @@ fn run(rt: &impl Abort, alloc: Global, rows: &[Row]) -> Result<(), Fail> {
         match row {
             Row::Give(numbers) => give(rt, alloc, &mut solver, numbers)?,
             Row::Ask(numbers, text) => {
-                let found = ask(rt, alloc, &mut solver, numbers, AMPLE)?;
+                let found = ask(rt, alloc, &mut solver, numbers, 1_000_000)?;
                 assert_eq!(rt; found.as_str(), *text);
             }
             Row::AskWithin(numbers, text) => {
-                let found = ask(rt, alloc, &mut solver, numbers, NO_CONFLICT)?;
+                let found = ask(rt, alloc, &mut solver, numbers, 0)?;
                 assert_eq!(rt; found.as_str(), *text);
             }
             Row::Count(pending, queried) => {

@@ -1,4 +1,4 @@
-use Rattle.std.proofs.Common.{◌≡◌, ◌∙◌, ◌≤◌, ◌+◌, ◌^◌, arith, length, ◌∷◌, ◌++◌, []}
+use Rattle.std.proofs.Common.{◌≤◌, ◌+◌, ◌^◌, arith, length}
 use Rattle.solver_api.proofs.StandingLemmas.{stands_add, stands_input}
 use Rattle.solver_api.proofs.solver.Solver.add.Goals as goal
 

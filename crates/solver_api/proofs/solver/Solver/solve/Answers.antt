@@ -1,5 +1,5 @@
-use Rattle.std.proofs.Common.{◌≡◌, ◌∙◌, refl, Bool, List, length, []}
-use Rattle.std.specs.Prelude.{◌||◌, ◌==◌, true}
+use Rattle.std.proofs.Common.{◌≡◌, ◌∙◌, refl, []}
+use Rattle.std.specs.Prelude.{◌||◌, true}
 use Rattle.solver_api.specs.Given.{GivenTrue}
 use Rattle.solver_api.proofs.Lists.{empty_core}
 use Rattle.solver_api.proofs.StandingLemmas.{stands_for_learned, model_of_given, core_of_given, stands_searched, stands_model, stands_core}
