@@ -1,6 +1,6 @@
 -- What a solver has been given.
 use Rattle.std.specs.List.{list_all}
-use Rattle.std.specs.Prelude.{◌≡◌, ℕ, Bool, true, List, [], ◌∷◌}
+use Rattle.std.specs.Prelude.{◌≡◌, Bool, true, List}
 use Rattle.sat_terms.specs.Truth.{Assignment, clause_true}
 use Rattle.sat_model.specs.Constraint.{constraint_true}
 use Rattle.solver_api.specs.declared.givens.GivenPart.{GivenPart}
@@ -19,9 +19,3 @@ GivenTrue parts f = list_all (part_true f) parts ≡ true
 abbrev pub IsClause : GivenPart → Type 0
 IsClause (Clause c) = Unit {0}
 IsClause (Rule r) = ⊥
-
--- the clauses among the parts, in order
-abbrev pub clauses_in : List GivenPart → List (List ℕ)
-clauses_in [] = []
-clauses_in (Clause c ∷ parts) = c ∷ clauses_in parts
-clauses_in (Rule r ∷ parts) = clauses_in parts
