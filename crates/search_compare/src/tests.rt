@@ -1,5 +1,5 @@
 //! The solver against plain backtracking.
-ghost use Rattle.std.specs.Prelude.{◌<◌, ◌≤◌, All, IsTrue};
+ghost use Rattle.std.specs.Prelude.{◌<◌, All, IsTrue};
 ghost use Rattle.sat_terms.specs.Answer.{Within};
 
 use crate::draw::Draw;

@@ -1,5 +1,5 @@
 //! The engine of a solver: the clauses that it stores, and the search among them.
-ghost use Rattle.std.specs.Prelude.{◌≡◌, ◌≤◌, ◌^◌, ℕ, [], IfOk, OnOk, OnErr};
+ghost use Rattle.std.specs.Prelude.{◌≡◌, ◌≤◌, ◌^◌, [], IfOk, OnOk, OnErr};
 ghost use Rattle.sat_terms.specs.Answer.{Within};
 ghost use Rattle.rooted_trails.specs.Rooted.{Rooted};
 ghost use Rattle.search_engine.specs.Searching.{StoreWithin, Learns};

@@ -1,5 +1,5 @@
 //! The solver.
-ghost use Rattle.std.specs.Prelude.{◌≡◌, ◌≤◌, ◌^◌, ◌∷◌, ◌++◌, ℕ, List, [], Bool, true, IfOk, IfErr, OnOk, OnErr, Some, None, length};
+ghost use Rattle.std.specs.Prelude.{◌≡◌, ◌≤◌, ◌^◌, ◌∷◌, ◌++◌, [], true, IfOk, IfErr, OnOk, OnErr, Some, None, length};
 ghost use Rattle.sat_terms.specs.Answer.{IsModel, NoModel};
 ghost use Rattle.solver_api.specs.Given.{GivenTrue};
 ghost use Rattle.solver_api.specs.Held.{Takes};
