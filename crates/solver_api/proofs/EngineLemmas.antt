@@ -41,7 +41,3 @@ firm_slot x y f same h e = subst (λ z. clause_true f (slot_lits z) ≡ true) (s
 
 pub firm_before : (old new : List (Option Stored)) → Learns old new → (f : Assignment) → FirmTrue new f → FirmTrue old f
 firm_before old new l f h id = firm_slot (slot old id) (slot new id) f (l.firm id) (h id)
-
--- a store learns nothing from itself
-pub learns_none : (s : List (Option Stored)) → Learns s s
-learns_none s = record { firm = λ id e. refl; no_more = λ id e. refl; implied = λ f h. h }
