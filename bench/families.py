@@ -5,6 +5,8 @@ this machine has. It makes its own data, prints a table, and asserts nothing but
     pigeons H     H + 1 pigeons in H holes: no model
     random N S    3-SAT over N variables at the ratio 4.2, by the seed S
     counter B     bounded model checking of a counter of B bits that may pause: one query a step, up to the step that reaches the end
+    easy N        2 N clauses of three literals over N variables, which have many models
+    wide N        the same over 500 variables, beside a clause of the variable N alone
 
 Usage: bench/families.py [--seconds N] [--also PROGRAM] [FAMILY ..]
     --seconds N      gives up on a run after so many seconds (60)
@@ -25,7 +27,7 @@ PROGRAM = os.path.join(TOP, "crates", "icnf_runner", "out", "icnf_runner")
 USUAL = (
     ["pigeons 7", "pigeons 8"]
     + [f"random {n} {seed}" for n in (100, 120, 150) for seed in (1, 2, 3)]
-    + ["counter 3", "counter 4", "counter 5"]
+    + ["counter 3", "counter 4", "counter 5", "easy 5000", "wide 4194303"]
 )
 OTHERS = ("minisat", "picosat", "cadical")
 
@@ -115,7 +117,22 @@ def counter(bits):
     return script
 
 
-FAMILIES = {"pigeons": pigeons, "random": random_3sat, "counter": counter}
+def easy(count):
+    script, draw = Script(), random.Random(count)
+    for _ in range(2 * count):
+        script.clause(*(v * draw.choice((1, -1)) for v in draw.sample(range(1, count + 1), 3)))
+    script.query()
+    return script
+
+
+def wide(last):
+    script = easy(500)
+    script.statements.insert(0, [last])
+    script.vars = last
+    return script
+
+
+FAMILIES = {"pigeons": pigeons, "random": random_3sat, "counter": counter, "easy": easy, "wide": wide}
 
 
 def run(command, text, seconds):
@@ -188,10 +205,10 @@ def main():
                 cells.append(f"> {args.seconds:.0f} s")
                 continue
             seconds, answers = result
-            first = first or seconds
+            first = seconds if first is None else first
             cells.append(f"{seconds:.3f} s ({seconds / first:.2f})")
-            known = known or answers
-            if answers != known:
+            known = answers if known is None else known
+            if answers != known or len(answers) != script.queries():
                 wrong += 1
                 cells[-1] += " !"
         print(f"{family:<14} {script.queries():>7} " + " ".join(f"{cell:>17}" for cell in cells), flush=True)

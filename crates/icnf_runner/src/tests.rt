@@ -1,5 +1,10 @@
 use super::run::{Status, run};
+use super::session::give_reply;
 use io_edge::memory::{MemSink, MemSource};
+use sat_model::lists::Lits;
+use sat_model::literal::Lit;
+use solver_api::calls::Budget;
+use solver_api::solver::Solver;
 use std::test::Fail;
 
 // Two clauses and two queries, 43 bytes.
@@ -200,5 +205,28 @@ fn words_are_refused_and_nothing_is_read(rt: HostRuntime) -> Result<(), Fail> {
         assert!(rt; sink.written() == usage.as_bytes());
         assert!(rt; source.rest() == SCRIPT.as_bytes());
     }
+    Ok(())
+}
+
+#[test]
+fn a_budget_of_no_conflicts_gives_unknown(rt: HostRuntime) -> Result<(), Fail> {
+    let alloc = rt.alloc();
+    let mut solver = Solver::new(alloc)?;
+    for (one, other) in [(1, 2), (-1, 2), (1, -2), (-1, -2)] {
+        let one = Lit::new(one).ok_or("no literal")?;
+        let other = Lit::new(other).ok_or("no literal")?;
+        solver.add(&[one, other])?;
+    }
+    if solver.taken() > 8 {
+        return Err("too many literals")?;
+    }
+    let mut sink = MemSink::new(alloc, 1000, 1000, &[])?;
+    let budget = Budget {
+        conflicts: 0,
+        callbacks: 0,
+    };
+    let code = give_reply(alloc, &mut solver, &Lits::new(alloc), budget, &mut sink);
+    assert!(rt; code.is_ok_and(|code| code == 0));
+    assert!(rt; sink.written() == b"s UNKNOWN\nc conflicts 0\n".as_slice());
     Ok(())
 }

@@ -1,5 +1,5 @@
 //! The solver against plain backtracking.
-ghost use Rattle.std.specs.Prelude.{◌<◌, All, IsTrue};
+ghost use Rattle.std.specs.Prelude.{◌≤◌, ◌^◌, All, IsTrue};
 ghost use Rattle.sat_terms.specs.Answer.{Within};
 
 use crate::draw::Draw;
@@ -7,7 +7,7 @@ use plain_search::search::search;
 use sat_model::lists::Lits;
 use sat_model::literal::Lit;
 use sat_model::truth::{clause_true, lit_true};
-use solver_api::calls::{NO_BUDGET, Outcome};
+use solver_api::calls::{Budget, NO_BUDGET, Outcome};
 use solver_api::solver::Solver;
 use std::alloc::Global;
 use std::test::Fail;
@@ -19,11 +19,18 @@ const SCRIPTS: u64 = 3000;
 
 const STATEMENTS: u32 = 30;
 
-// How many queries were answered, and how.
+// A budget of no conflicts.
+const NO_CONFLICTS: Budget = Budget {
+    conflicts: 0,
+    callbacks: 0,
+};
+
+// How many answers there were of each kind, and how many did not fit.
 #[derive(Drop)]
 struct Counts {
     models: u64,
     cores: u64,
+    unknown: u64,
     unfit: u64,
 }
 
@@ -74,7 +81,49 @@ fn is_part(core: &[Lit], assumed: &[Lit]) -> bool {
     at == core.len()
 }
 
-// Asks the solver, and counts its answer, which must be that of plain backtracking, with a model or a core that fits.
+// Assumes literals, and solves within a budget.
+fn solve(solver: &mut Solver, assumed: &[Lit], budget: Budget) -> Result<Outcome, Fail>
+    requires conflicts { budget.conflicts ≤ 2 ^ 62 }
+    requires callbacks { budget.callbacks ≤ 2 ^ 62 }
+{
+    for lit in assumed {
+        solver.assume(*lit)?;
+    }
+    Ok(solver.solve(budget, 1000)?)
+}
+
+// Whether the solver's last answer is that of plain backtracking, with a model or a core that fits.
+fn fits(
+    alloc: Global,
+    solver: &Solver,
+    outcome: Outcome,
+    clauses: &Vec<Lits>,
+    assumed: &[Lit],
+) -> Result<bool, Fail> {
+    let expected = has_model(alloc, clauses, assumed)?;
+    match outcome {
+        Outcome::Sat => Ok(expected && makes_true(solver.model()?, clauses.as_slice(), assumed)),
+        Outcome::Unsat => {
+            let core = solver.core()?;
+            Ok(!expected && is_part(core, assumed) && !has_model(alloc, clauses, core)?)
+        }
+        Outcome::Unknown(_) => Ok(true),
+    }
+}
+
+// Counts an answer.
+fn count(counts: &mut Counts, outcome: Outcome, fits: bool) {
+    match outcome {
+        Outcome::Sat => counts.models = counts.models.saturating_add(1),
+        Outcome::Unsat => counts.cores = counts.cores.saturating_add(1),
+        Outcome::Unknown(_) => counts.unknown = counts.unknown.saturating_add(1),
+    }
+    if !fits {
+        counts.unfit = counts.unfit.saturating_add(1);
+    }
+}
+
+// Asks the solver with no conflict to spend, and where that is too little without a budget.
 fn ask(
     alloc: Global,
     solver: &mut Solver,
@@ -82,29 +131,22 @@ fn ask(
     assumed: &[Lit],
     counts: &mut Counts,
 ) -> Result<(), Fail> {
-    for lit in assumed {
-        solver.assume(*lit)?;
-    }
-    let expected = has_model(alloc, clauses, assumed)?;
-    let fits = match solver.solve(NO_BUDGET, 1000)? {
-        Outcome::Sat => {
-            counts.models = counts.models.saturating_add(1);
-            expected && makes_true(solver.model()?, clauses.as_slice(), assumed)
-        }
-        Outcome::Unsat => {
-            counts.cores = counts.cores.saturating_add(1);
-            let core = solver.core()?;
-            !expected && is_part(core, assumed) && !has_model(alloc, clauses, core)?
-        }
-        Outcome::Unknown(_) => false,
-    };
-    if !fits {
-        counts.unfit = counts.unfit.saturating_add(1);
+    let first = solve(solver, assumed, NO_CONFLICTS)?;
+    let first_fits = fits(alloc, solver, first, clauses, assumed)?;
+    count(counts, first, first_fits);
+    if matches!(first, Outcome::Unknown(_)) {
+        let second = solve(solver, assumed, NO_BUDGET)?;
+        let second_fits = fits(alloc, solver, second, clauses, assumed)?;
+        count(
+            counts,
+            second,
+            second_fits && !matches!(second, Outcome::Unknown(_)),
+        );
     }
     Ok(())
 }
 
-// Clauses and queries in turn, as drawn from a seed.
+// Clauses and queries in turn, as drawn from a seed. Few clauses are empty.
 fn compare(alloc: Global, seed: u64, counts: &mut Counts) -> Result<(), Fail> {
     let mut draw = Draw::new(seed);
     let vars = draw.below(MOST_VARS - 2).saturating_add(3);
@@ -112,13 +154,17 @@ fn compare(alloc: Global, seed: u64, counts: &mut Counts) -> Result<(), Fail> {
     let mut clauses = Vec::new(alloc);
     for _ in 0..STATEMENTS {
         if draw.below(3) > 0 {
-            let count = draw.below(3).saturating_add(1);
-            let clause = draw.literals(alloc, vars, count)?;
+            let size = if draw.below(100) == 0 {
+                0
+            } else {
+                draw.below(5).saturating_add(1)
+            };
+            let clause = draw.literals(alloc, vars, size)?;
             solver.add(clause.as_slice())?;
             clauses.push(clause)?;
         } else {
-            let count = draw.below(4);
-            let assumed = draw.literals(alloc, vars, count)?;
+            let size = draw.below(5);
+            let assumed = draw.literals(alloc, vars, size)?;
             ask(alloc, &mut solver, &clauses, assumed.as_slice(), counts)?;
         }
     }
@@ -130,12 +176,13 @@ fn answers_as_plain_backtracking_does(rt: HostRuntime) -> Result<(), Fail> {
     let mut counts = Counts {
         models: 0,
         cores: 0,
+        unknown: 0,
         unfit: 0,
     };
     for seed in 0..SCRIPTS {
         compare(rt.alloc(), seed, &mut counts)?;
     }
     assert_eq!(rt; counts.unfit, 0);
-    assert!(rt; counts.models > 5000 && counts.cores > 5000);
+    assert!(rt; counts.models > 5000 && counts.cores > 5000 && counts.unknown > 200);
     Ok(())
 }
