@@ -25,7 +25,7 @@ pub(crate) enum Answer {
     Model(Values),
     // A core of the assumptions.
     Core(Lits),
-    // The budget was used up before.
+    // The budget was used up before an answer was found.
     Spent(Spent),
 }
 

@@ -4,7 +4,6 @@ ghost use Rattle.solver_api.specs.declared.givens.GivenPart.TheVariants as parts
 
 use sat_model::constraint::Constraint;
 use sat_model::lists::Lits;
-use sat_model::literal::Lit;
 use sat_model::memory::Memory;
 use std::alloc::Global;
 use std::marker::Model;

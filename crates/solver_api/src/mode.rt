@@ -37,7 +37,7 @@ impl Values {
 /// What a solver shows.
 #[derive(Drop)]
 pub enum Mode {
-    /// No answer: nothing was solved yet, or what is solved was changed since.
+    /// No answer: nothing was solved yet, the last solve found none, or what is solved was changed since.
     Input,
     /// The model that the last solve found.
     Sat(Values),

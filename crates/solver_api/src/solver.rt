@@ -10,7 +10,7 @@ use crate::calls::{Budget, Call, Outcome, Refusal, Reply};
 use crate::engine::{Answer, Engine};
 use crate::givens::Givens;
 use crate::literals::{greatest_of, settles, stands_in};
-use crate::mode::{Mode, Values};
+use crate::mode::Mode;
 use sat_model::lists::Lits;
 use sat_model::literal::{Lit, MAX_LITERALS};
 use sat_model::memory::Memory;
@@ -132,8 +132,8 @@ impl Solver {
     /// Looks for a model of what was given and of the pending assumptions. `Sat` shows the model, and `Unsat` shows a core: some of
     /// the assumptions, none twice, that no model of what was given makes true. An empty core says that what was given has no model,
     /// and it settles the solver: every later query is `Unsat` with the empty core at once. `Unknown` says that the budget of
-    /// conflicts, which is below 2^62, was used up before; no answer is shown then. Whatever is answered, the pending assumptions
-    /// are dropped.
+    /// conflicts, which is below 2^62, was used up before an answer was found; none is shown then. Whatever is answered, the
+    /// pending assumptions are dropped.
     ///
     /// The numbers are at most 2^62. A budget of 2^62 is none. `limit` bounds the steps of each pass of simplification; no pass
     /// runs yet, so it has no effect, and nor has the budget of callbacks. The one refusal is `Memory`: no answer is shown.

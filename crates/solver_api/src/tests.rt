@@ -156,6 +156,15 @@ fn stops_at_its_budget(rt: HostRuntime) -> Result<(), Fail> {
         Row::Look(7, "Err(NotSat) Ok(false)"),
         Row::Count(0, 2),
     ];
+    run(&rt, rt.alloc(), &rows)?;
+    // What a query has learned stays: the last one meets no conflict.
+    let rows = [
+        Row::Give(&[-1, 2]),
+        Row::Give(&[-1, -2]),
+        Row::AskWithin(&[], "unknown 0"),
+        Row::Ask(&[], "sat 0 1"),
+        Row::AskWithin(&[], "sat 0 1"),
+    ];
     run(&rt, rt.alloc(), &rows)
 }
 
