@@ -1,6 +1,6 @@
 -- Laws of turns that decide.
-use Rattle.std.proofs.Common.{◌≡◌, ℕ, ◌+◌, ◌<◌, true, false, List, [], ◌∷◌, ◌++◌, length, get_or, take, ◌⊎◌, inl, inr, refl, sym, ap, ◌∙◌, arith, Option}
-use Rattle.std.specs.Prelude.{IsTrue}
+use Rattle.std.proofs.Common.{◌≡◌, ℕ, ◌+◌, ◌<◌, true, false, List, [], ◌∷◌, ◌++◌, length, get_or, take, ◌⊎◌, inl, inr, refl, sym, ap, ◌∙◌, subst, arith, Option, Some, None}
+use Rattle.std.specs.Prelude.{IsTrue, IfNone}
 use Rattle.std.proofs.lemmas.Bool.{false≢true}
 use Rattle.std.proofs.lemmas.List.{take-append-le, take_at, length_push}
 use Rattle.sat_terms.specs.Literal.{has, pos_lit}
@@ -16,22 +16,36 @@ use Rattle.watch_lists.specs.Propagation.{Watching, follows}
 use Rattle.watch_lists.proofs.Members.{has_more}
 use Rattle.assumption_core.specs.Core.{DecidesAssumed}
 use Rattle.search_engine.specs.declared.state.Core.{Core}
-use Rattle.search_engine.specs.declared.choice.Cursor.{Cursor}
+use Rattle.search_engine.specs.declared.cursor.Cursor.{Cursor}
 use Rattle.search_engine.specs.Searching.{IsReady, Learns, Keeps}
-use Rattle.search_engine.specs.Turns.{AllOn, AssumesFirst, Stands, Rises, Next, Passed}
-use Rattle.search_engine.proofs.Values.{true_in_front, true_longer, valued_longer}
+use Rattle.search_engine.specs.Turns.{AllOn, KeepsTrue, AssumesFirst, Stands, Rises, Next, Passed}
+use Rattle.search_engine.proofs.Values.{true_in_front, true_longer, valued_kept, clauses_kept}
 
--- one assumption more was passed
-pub all_on_more : (t : List Step) (lits : List ℕ) (i l : ℕ) → AllOn t (take i lits) → i < length lits → l ≡ get_or lits i l → true_on t l ≡ true → AllOn t (take (i + 1) lits)
-all_on_more t lits i l before in' is on k h =
-    elim (has_more lits i l k in' is h) [ inl a ↦ before k a | inr e ↦ rw (← e) on ]
+-- what holds of the front of a list and of the next member
+pub each_more : (P : ℕ → Type 0) (xs : List ℕ) (i x : ℕ) → ((k : ℕ) → has (take i xs) k ≡ true → P k) → i < length xs → x ≡ get_or xs i x → P x → (k : ℕ) → has (take (i + 1) xs) k ≡ true → P k
+each_more P xs i x before in' is here k h =
+    elim (has_more xs i x k in' is h) [ inl a ↦ before k a | inr e ↦ subst P e here ]
 
--- what was passed on a trail was passed on a longer one
-pub passed_longer : (assumptions : List ℕ) (t more : List Step) (cursor : Cursor) → Passed assumptions t cursor → Passed assumptions (t ++ more) cursor
-passed_longer assumptions t more cursor passed = record {
-  assumed = λ l h. true_longer t more l (passed.assumed l h);
-  valued = λ v pos lt. valued_longer t more (pos_lit v) (passed.valued v pos lt);
+-- what was passed stays so where the trail keeps what is true
+pub passed_kept : (assumptions firm : List ℕ) (old new : Core) (cursor : Cursor) → new.store ≡ old.store → KeepsTrue old.trail.steps new.trail.steps → Passed assumptions firm old cursor → Passed assumptions firm new cursor
+passed_kept assumptions firm old new cursor store kept passed = record {
+  assumed = λ l h. kept l (passed.assumed l h);
+  met = rw store (clauses_kept old.trail.steps new.trail.steps old.store (take cursor.clause firm) kept passed.met);
+  valued = λ v pos lt. valued_kept old.trail.steps new.trail.steps (pos_lit v) kept (passed.valued v pos lt);
 }
+
+-- more assumptions were passed
+pub passed_on : (assumptions firm : List ℕ) (c : Core) (old new : Cursor) → Passed assumptions firm c old → AllOn c.trail.steps (take new.assumption assumptions) → new.clause ≡ old.clause → new.var ≡ old.var → Passed assumptions firm c new
+passed_on assumptions firm c old new passed on clause var = record {
+  assumed = on;
+  met = rw clause passed.met;
+  valued = rw var passed.valued;
+}
+
+-- what follows where there is nothing
+pub if_none_more : {A : Type 0} (r : Option A) (P Q : Type 0) → (P → Q) → IfNone r P → IfNone r Q
+if_none_more None P Q more h = more h
+if_none_more (Some x) P Q more h = h
 
 -- the rank rises by a literal more
 pub rises_push : (t : List Step) (x : Step) → Rises t (t ++ x ∷ [])
@@ -116,15 +130,18 @@ module _ (assumptions : List ℕ) (old new : Core) (l : ℕ) (d : Decides old ne
     rises = rw d.steps (rises_push old.trail.steps (decision l old.trail.level));
   }
 
-  pub decided_passed : (cursor : Cursor) → Passed assumptions old.trail.steps cursor → Passed assumptions new.trail.steps cursor
-  decided_passed cursor passed = rw d.steps (passed_longer assumptions old.trail.steps (decision l old.trail.level ∷ []) cursor passed)
+  pub decided_passed : (firm : List ℕ) (cursor : Cursor) → Passed assumptions firm old cursor → Passed assumptions firm new cursor
+  decided_passed firm cursor passed = passed_kept assumptions firm old new cursor d.store (λ k h. rw d.steps (true_longer old.trail.steps (decision l old.trail.level ∷ []) k h)) passed
 
--- a core whose store and trail stay is kept
-pub keeps_same : (assumptions : List ℕ) (old new : Core) → IsReady assumptions old → new.store ≡ old.store → new.trail ≡ old.trail → length new.model.items ≡ length old.model.items → Keeps old new
-keeps_same assumptions old new ready store trail size = record {
+-- a core whose store stays is kept
+pub keeps_by : (assumptions : List ℕ) (old new : Core) → IsReady assumptions old → new.store ≡ old.store → Rooted old.store new.trail.steps → new.trail.declared ≡ old.trail.declared → length new.model.items ≡ length old.model.items → Keeps old new
+keeps_by assumptions old new ready store rooted declared size = record {
   learns = rw store (learns_same old.store);
-  rooted = rw (store, trail) ready.rooted;
+  rooted = rw store rooted;
   within = rw store ready.within;
-  declared = ap (λ t. t.declared) trail;
+  declared = declared;
   size = size;
 }
+
+pub keeps_same : (assumptions : List ℕ) (old new : Core) → IsReady assumptions old → new.store ≡ old.store → new.trail ≡ old.trail → length new.model.items ≡ length old.model.items → Keeps old new
+keeps_same assumptions old new ready store trail size = keeps_by assumptions old new ready store (rw trail ready.rooted) (ap (λ t. t.declared) trail) size

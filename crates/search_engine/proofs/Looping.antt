@@ -1,10 +1,10 @@
 -- Laws of turns that propagate, and of what a search keeps from turn to turn.
-use Rattle.std.proofs.Common.{◌≡◌, ℕ, suc, zero, ◌-◌, ◌^◌, ◌<◌, ◌≤◌, false, List, [], ◌∷◌, ◌++◌, length, inl, inr, refl, sym, ◌∙◌, arith, Option, None, Result, Ok, Err, IfOk}
+use Rattle.std.proofs.Common.{◌≡◌, ℕ, suc, zero, ◌-◌, ◌^◌, ◌<◌, ◌≤◌, Bool, true, false, List, [], ◌∷◌, ◌++◌, length, inl, inr, refl, sym, ap, ◌∙◌, arith, Option, None, Result, Ok, Err, IfOk}
 use Rattle.std.specs.Prelude.{IsSome, IsTrue}
 use Rattle.std.proofs.lemmas.Bool.{cases_lt}
 use Rattle.std.proofs.lemmas.List.{take-append-le, get_or_append_left}
 use Rattle.sat_terms.specs.Truth.{Assignment, values}
-use Rattle.clause_store.specs.Stored.{Stored, slot, slot_lits, FirmTrue}
+use Rattle.clause_store.specs.Stored.{Stored, slot, slot_lits, is_firm, FirmTrue}
 use Rattle.trail_state.specs.declared.trail.Step.{Step}
 use Rattle.trail_state.specs.declared.reason.Reason.{Reason}
 use Rattle.trail_state.specs.declared.reason.Reason.TheVariants.{Decision, Clause, Theory}
@@ -21,10 +21,11 @@ use Rattle.search_engine.specs.declared.state.Found.TheVariants as found
 use Rattle.search_engine.specs.declared.state.Spent.TheVariants.{Conflicts}
 use Rattle.search_engine.specs.declared.conflict.Turn.{Turn}
 use Rattle.search_engine.specs.declared.conflict.Turn.TheVariants.{Goes, Ends}
-use Rattle.search_engine.specs.declared.choice.Cursor.{Cursor}
+use Rattle.search_engine.specs.declared.cursor.Cursor.{Cursor}
 use Rattle.search_engine.specs.Searching.{AttachesLive, IsReady, Learns, Keeps, FoundIs}
-use Rattle.search_engine.specs.Turns.{AssumesFirst, Stands, Rises, Passed, TurnIs}
-use Rattle.search_engine.proofs.Choices.{learns_same, passed_longer}
+use Rattle.search_engine.specs.Turns.{AssumesFirst, NamesFirm, Stands, Rises, Passed, TurnIs}
+use Rattle.search_engine.proofs.Choices.{learns_same, passed_kept}
+use Rattle.search_engine.proofs.Values.{true_longer}
 
 -- what holds of the value of an `Ok`
 pub ok_more : {A E : Type 0} (r : Result A E) (P Q : A → Type 0) → ((x : A) → P x → Q x) → IfOk r P → IfOk r Q
@@ -131,8 +132,16 @@ module _ (assumptions : List ℕ) (old new : Core) (p : Propagates old new) wher
         settled = rw p.tally stands.settled;
       }
 
-  pub propagated_passed : (cursor : Cursor) → Passed assumptions old.trail.steps cursor → Passed assumptions new.trail.steps cursor
-  propagated_passed cursor passed = rw p.grown.steps (passed_longer assumptions old.trail.steps p.grown.tail cursor passed)
+  pub propagated_passed : (firm : List ℕ) (cursor : Cursor) → Passed assumptions firm old cursor → Passed assumptions firm new cursor
+  propagated_passed firm cursor passed = passed_kept assumptions firm old new cursor p.store (λ l h. rw p.grown.steps (true_longer old.trail.steps p.grown.tail l h)) passed
+
+-- the firm clauses stay the listed ones
+pub names_learned : (firm : List ℕ) (a b : List (Option Stored)) → Learns a b → NamesFirm firm a → NamesFirm firm b
+names_learned firm a b learns names id = names id ∙ go (is_firm (slot a id)) (is_firm (slot b id)) refl refl where
+  go : (x y : Bool) → is_firm (slot a id) ≡ x → is_firm (slot b id) ≡ y → is_firm (slot a id) ≡ is_firm (slot b id)
+  go true y e e' = sym (ap is_firm (learns.firm id e))
+  go false true e e' = sym (ap is_firm (learns.no_more id e'))
+  go false false e e' = e ∙ sym e'
 
 -- what is kept twice is kept
 learns_more : (a b c : List (Option Stored)) → Learns a b → Learns b c → Learns a c

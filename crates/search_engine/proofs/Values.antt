@@ -1,6 +1,7 @@
 -- Laws of the values on a trail, and of the model that shows them.
 use Rattle.std.proofs.Common.{◌≡◌, ◌≢◌, ℕ, suc, zero, ◌+◌, ◌-◌, ◌%◌, ◌<◌, ◌≤◌, Bool, true, false, cond, not, ◌||◌, eqb, List, [], ◌∷◌, ◌++◌, length, get_or, set, take, drop, ◌⊎◌, inl, inr, refl, sym, ap, ◌∙◌, subst, arith, Option, Some, None}
 use Rattle.std.specs.Prelude.{IsSome, is_some}
+use Rattle.std.specs.List.{list_any}
 use Rattle.std.specs.Option.{option_eq}
 use mathlib.Core.Bool.{beq}
 use Rattle.std.proofs.lemmas.Bool.{false≢true, true≢false, cases_eq, or_cases, or_left, or_right, eqb-true, eq-eqb, ne_eqb, false_from_ne_true}
@@ -10,7 +11,7 @@ use Rattle.sat_terms.specs.Literal.{has, neg, var_of, pos_lit}
 use Rattle.sat_terms.specs.Truth.{Assignment, values, lit_true, lits_true}
 use Rattle.sat_terms.specs.Answer.{IsModel}
 use Rattle.sat_terms.proofs.Literals.{neg-neg, neg-other, same_var, var_of-neg, var_of-pos_lit}
-use Rattle.sat_terms.proofs.Truths.{lit_true-neg, clause_true-from}
+use Rattle.sat_terms.proofs.Truths.{lit_true-neg}
 use Rattle.sat_terms.proofs.Models.{values_zero, values_at, values-set, lit_true_pos}
 use Rattle.clause_store.specs.Stored.{Stored, slot, slot_lits, is_firm, FirmTrue}
 use Rattle.trail_state.specs.declared.trail.Step.{Step}
@@ -20,7 +21,7 @@ use Rattle.trail_state.proofs.Places.{place_of_true, lit_read}
 use Rattle.watch_lists.specs.Propagation.{AllQuiet}
 use Rattle.watch_lists.proofs.Members.{All-has}
 use Rattle.search_engine.specs.Searching.{AllValued, Shows, AttachesLive, StoreWithin}
-use Rattle.search_engine.specs.Turns.{AllOn}
+use Rattle.search_engine.specs.Turns.{AllOn, KeepsTrue, NamesFirm, clause_on, ClausesOn}
 
 -- a literal with a value is true, or its opposite is
 pub valued_cases : (t : List Step) (l : ℕ) → IsSome (value_on t l) → (true_on t l ≡ true) ⊎ (true_on t (neg l) ≡ true)
@@ -41,12 +42,24 @@ valued_from t l (inr off) = go (true_on t l) where
 pub true_longer : (t more : List Step) (l : ℕ) → true_on t l ≡ true → true_on (t ++ more) l ≡ true
 true_longer t more l h = list_any-append (λ x. eqb x.lit l) t more ∙ or_left (true_on t l) (true_on more l) h
 
-pub valued_longer : (t more : List Step) (l : ℕ) → IsSome (value_on t l) → IsSome (value_on (t ++ more) l)
-valued_longer t more l h =
-    valued_from (t ++ more) l (elim (valued_cases t l h) [
-      | inl on ↦ inl (true_longer t more l on)
-      | inr off ↦ inr (true_longer t more (neg l) off)
+pub valued_kept : (t t' : List Step) (l : ℕ) → KeepsTrue t t' → IsSome (value_on t l) → IsSome (value_on t' l)
+valued_kept t t' l kept h =
+    valued_from t' l (elim (valued_cases t l h) [
+      | inl on ↦ inl (kept l on)
+      | inr off ↦ inr (kept (neg l) off)
     ])
+
+-- what makes a clause true still does where it means more
+any_kept : (p q : ℕ → Bool) (c : List ℕ) → ((l : ℕ) → p l ≡ true → q l ≡ true) → list_any p c ≡ true → list_any q c ≡ true
+any_kept p q [] kept h = absurd (false≢true h)
+any_kept p q (x ∷ c) kept h =
+    elim (or_cases (p x) (list_any p c) h) [
+      | inl a ↦ or_left (q x) (list_any q c) (kept x a)
+      | inr b ↦ or_right (q x) (list_any q c) (any_kept p q c kept b)
+    ]
+
+pub clauses_kept : (t t' : List Step) (s : List (Option Stored)) (ids : List ℕ) → KeepsTrue t t' → ClausesOn t s ids → ClausesOn t' s ids
+clauses_kept t t' s ids kept on id h = any_kept (true_on t) (true_on t') (slot_lits (slot s id)) kept (on id h)
 
 pub true_in_front : (t : List Step) (n l : ℕ) → true_on (take n t) l ≡ true → true_on t l ≡ true
 true_in_front t n l h = subst (λ q. true_on q l ≡ true) (take-append-drop n t) (true_longer (take n t) (drop n t) l h)
@@ -75,14 +88,14 @@ pub is_false : (t : List Step) (l : ℕ) → IsSome (value_on t l) → true_on t
 is_false t l some off = elim (valued_cases t l some) [ inl on ↦ absurd (false≢true (sym off ∙ on)) | inr on ↦ on ]
 
 -- where every literal of a clause has a value, it has a true one or is false
-true_or_false : (t : List Step) (c : List ℕ) → ((l : ℕ) → has c l ≡ true → (true_on t l ≡ true) ⊎ (true_on t (neg l) ≡ true)) → ((l : ℕ) × (has c l ≡ true) × (true_on t l ≡ true)) ⊎ FalseOn t c
+true_or_false : (t : List Step) (c : List ℕ) → ((l : ℕ) → has c l ≡ true → (true_on t l ≡ true) ⊎ (true_on t (neg l) ≡ true)) → (clause_on t c ≡ true) ⊎ FalseOn t c
 true_or_false t [] each = inr (λ l h. absurd (false≢true h))
 true_or_false t (x ∷ c) each =
     elim (each x (or_left (eqb x x) (has c x) (eq-eqb x x refl))) [
-      | inl on ↦ inl (x, or_left (eqb x x) (has c x) (eq-eqb x x refl), on)
+      | inl on ↦ inl (or_left (true_on t x) (clause_on t c) on)
       | inr off ↦
           elim (true_or_false t c (λ l h. each l (or_right (eqb x l) (has c l) h))) [
-            | inl w ↦ inl (w.0, or_right (eqb x w.0) (has c w.0) w.1, w.2)
+            | inl w ↦ inl (or_right (true_on t x) (clause_on t c) w)
             | inr f ↦
                 inr (λ l h.
                 elim (or_cases (eqb x l) (has c l) h) [
@@ -144,18 +157,21 @@ all_on_true t m (x ∷ lits) apart shows on =
     rw (shown_true t m x apart shows (on x (or_left (eqb x x) (has lits x) (eq-eqb x x refl))))
     (all_on_true t m lits apart shows (λ l h. on l (or_right (eqb x l) (has lits l) h)))
 
--- where all declared variables have values and no attached clause is false, the shown model is one of the firm clauses
-pub shown_model : (s : List (Option Stored)) (t : List Step) (ids assumptions : List ℕ) (n size : ℕ) (m : List Bool) → AttachesLive ids s → StoreWithin n s → AllQuiet ids s t → AllValued n t → IsApart t
-    → Shows m t → AllOn t assumptions → length m ≡ size → IsModel (FirmTrue s) assumptions size m
-shown_model s t ids assumptions n size m attached within quiet all apart shows on long = record {
+-- where all declared variables have values and no attached clause is false, every firm clause has a true literal
+pub all_met : (s : List (Option Stored)) (t : List Step) (ids firm : List ℕ) (n : ℕ) → AttachesLive ids s → StoreWithin n s → AllQuiet ids s t → AllValued n t → NamesFirm firm s → ClausesOn t s firm
+all_met s t ids firm n attached within quiet all names id h =
+    let live = firm_live (slot s id) (sym (names id) ∙ h) in
+    let c = slot_lits (slot s id) in
+    elim (true_or_false t c (λ l m. each_valued t n l all (All-has (λ k. (1 ≤ var_of k) × (var_of k ≤ n)) c l (within id live) m))) [
+      | inl on ↦ on
+      | inr f ↦ absurd ((quiet id (attached id ∙ live)).not_false f)
+    ]
+
+-- where every firm clause has a true literal, the shown model is one of the firm clauses
+pub shown_model : (s : List (Option Stored)) (t : List Step) (firm assumptions : List ℕ) (size : ℕ) (m : List Bool) → NamesFirm firm s → ClausesOn t s firm → IsApart t → Shows m t → AllOn t assumptions → length m ≡ size → IsModel (FirmTrue s) assumptions size m
+shown_model s t firm assumptions size m names met apart shows on long = record {
   size = long;
-  holds = λ id firm.
-      let live = firm_live (slot s id) firm in
-      let c = slot_lits (slot s id) in
-      elim (true_or_false t c (λ l h. each_valued t n l all (All-has (λ k. (1 ≤ var_of k) × (var_of k ≤ n)) c l (within id live) h))) [
-        | inl w ↦ clause_true-from (values m) c w.0 w.1 (shown_true t m w.0 apart shows w.2)
-        | inr f ↦ absurd ((quiet id (attached id ∙ live)).not_false f)
-      ];
+  holds = λ id is. any_kept (true_on t) (lit_true (values m)) (slot_lits (slot s id)) (λ l h. shown_true t m l apart shows h) (met id (names id ∙ is));
   assumed = all_on_true t m assumptions apart shows on;
 }
 

@@ -1,47 +1,30 @@
 //! Turns that begin with nothing left to propagate: an assumption, a decision, or a model.
-ghost use Rattle.std.specs.Prelude.{◌≡◌, ◌<◌, ◌≤◌, ℕ, true, false, length, None, IsSome, IfOk, IfSome, IfNone};
+ghost use Rattle.std.specs.Prelude.{◌≡◌, ◌<◌, ◌≤◌, ℕ, true, false, List, length, take, Option, None, IsSome, IfOk, IfSome, IfNone};
 ghost use Rattle.sat_terms.specs.Literal.{has, pos_lit, var_of};
+ghost use Rattle.clause_store.specs.Stored.{Stored};
 ghost use Rattle.trail_state.specs.Trail.{true_on, value_on};
+ghost use Rattle.rooted_trails.specs.Rooted.{Rooted};
 ghost use Rattle.watch_lists.specs.Propagation.{AllQuiet};
-ghost use Rattle.search_engine.specs.Searching.{Keeps, AllValued, Shows};
-ghost use Rattle.search_engine.specs.Turns.{AllOn, Stands, Passed, TurnIs};
+ghost use Rattle.search_engine.specs.Searching.{IsReady, Keeps, AllValued, Shows};
+ghost use Rattle.search_engine.specs.Turns.{AllOn, KeepsTrue, ClausesOn, NamesFirm, Stands, Passed, TurnIs};
 
 use crate::conflict::Turn;
+use crate::cursor::Cursor;
+use crate::met::are_met;
 use crate::state::{Core, Found};
 use assumption_core::cores::{CoreStart, core_of};
+use sat_model::lists::ClauseId;
 use sat_model::literal::{Lit, Var};
 use sat_model::memory::Memory;
 use std::alloc::Global;
 use trail_state::trail::Trail;
 
-/// How far a search has looked since it last went back: the assumptions before this place are true, and the variables below this
-/// one have values.
-#[derive(Clone, Copy)]
-pub(crate) struct Cursor {
-    pub(crate) assumption: usize,
-    pub(crate) var: u32,
-}
-
-impl Cursor {
-    ghost use Rattle.search_engine.specs.Turns.{Passed};
-    ghost use Rattle.std.specs.Prelude.{ℕ, List};
-    ghost use Rattle.trail_state.specs.declared.trail.Step.{Step};
-
-    // Nothing was looked at.
-    pub(crate) fn start() -> Cursor
-        ensures { (assumptions : List ℕ) (t : List Step) → Passed assumptions t result }
-    {
-        Cursor {
-            assumption: 0,
-            var: 1,
-        }
-    }
-}
-
 // The first assumption that is not true.
 fn next_assumption(trail: &Trail, assumptions: &[Lit], cursor: &mut Cursor) -> Option<Lit>
-    requires { Passed assumptions.now trail.now.steps cursor.old }
-    ensures passed { Passed assumptions.now trail.now.steps cursor.new }
+    requires { AllOn trail.now.steps (take cursor.old.assumption assumptions.now) }
+    ensures passed { AllOn trail.now.steps (take cursor.new.assumption assumptions.now) }
+    ensures clause { cursor.new.clause ≡ cursor.old.clause }
+    ensures var { cursor.new.var ≡ cursor.old.var }
     ensures found { IfSome result (λ l. (has assumptions.now l ≡ true) × (true_on trail.now.steps l ≡ false)) }
     ensures none { IfNone result (AllOn trail.now.steps assumptions.now) }
 {
@@ -59,6 +42,7 @@ fn next_assumption(trail: &Trail, assumptions: &[Lit], cursor: &mut Cursor) -> O
 fn next_free(trail: &Trail, cursor: &mut Cursor) -> Option<Lit>
     requires { (v : ℕ) → 0 < v → v < cursor.old.var → IsSome (value_on trail.now.steps (pos_lit v)) }
     ensures assumption { cursor.new.assumption ≡ cursor.old.assumption }
+    ensures clause { cursor.new.clause ≡ cursor.old.clause }
     ensures passed { (v : ℕ) → 0 < v → v < cursor.new.var → IsSome (value_on trail.now.steps (pos_lit v)) }
     ensures found { IfSome result (λ l. (value_on trail.now.steps l ≡ None) × (var_of l ≤ trail.now.declared)) }
     ensures none { IfNone result (AllValued trail.now.declared trail.now.steps) }
@@ -98,7 +82,7 @@ fn assume(alloc: Global, core: &mut Core, assumptions: &[Lit], lit: Lit) -> Resu
     requires untrue { true_on core.old.trail.steps lit ≡ false }
     ensures turn { IfOk result (TurnIs assumptions.now core.old core.new) }
     ensures keeps { Keeps core.old core.new }
-    ensures passed { (cursor : Cursor) → Passed assumptions.now core.old.trail.steps cursor → Passed assumptions.now core.new.trail.steps cursor }
+    ensures passed { (firm : List ℕ) (cursor : Cursor) → Passed assumptions.now firm core.old cursor → Passed assumptions.now firm core.new cursor }
     ensures tally { core.new.tally ≡ core.old.tally }
 {
     core.watches.goes_on_following();
@@ -111,50 +95,92 @@ fn assume(alloc: Global, core: &mut Core, assumptions: &[Lit], lit: Lit) -> Resu
     Ok(Turn::Ends(Found::Unsat(failed)))
 }
 
-// Decides the least variable that has no value, or shows the model where all have one.
-fn decide(core: &mut Core, assumptions: &[Lit], cursor: &mut Cursor) -> Turn
+// The variable that is to be decided next, as a true literal: the least that has no value. There is none where all firm clauses are
+// true.
+fn next_decision(
+    core: &Core,
+    assumptions: &[Lit],
+    firm: &[ClauseId],
+    cursor: &mut Cursor,
+) -> Option<Lit>
+    requires ready { IsReady assumptions.now core.now }
+    requires quiet { AllQuiet core.now.watches.attached core.now.store core.now.trail.steps }
+    requires listed { NamesFirm firm.now core.now.store }
+    requires passed { Passed assumptions.now firm.now core.now cursor.old }
+    ensures passed { Passed assumptions.now firm.now core.now cursor.new }
+    ensures found { IfSome result (λ l. (value_on core.now.trail.steps l ≡ None) × (var_of l ≤ core.now.trail.declared)) }
+    ensures none { IfNone result (ClausesOn core.now.trail.steps core.now.store firm.now) }
+{
+    let _ = assumptions;
+    if are_met(&core.trail, &core.store, firm, cursor) {
+        return None;
+    }
+    next_free(&core.trail, cursor)
+}
+
+// Decides true every variable that has no value, one after the other.
+fn decide_rest(trail: &mut Trail, mut cursor: Cursor)
+    requires { (v : ℕ) → 0 < v → v < cursor.var → IsSome (value_on trail.old.steps (pos_lit v)) }
+    ensures valued { AllValued trail.new.declared trail.new.steps }
+    ensures kept { KeepsTrue trail.old.steps trail.new.steps }
+    ensures rooted { (s : List (Option Stored)) → Rooted s trail.old.steps → Rooted s trail.new.steps }
+    ensures declared { trail.new.declared ≡ trail.old.declared }
+{
+    trail.has_room();
+    while let Some(lit) = next_free(trail, &mut cursor) {
+        trail.decide(lit);
+        trail.has_room();
+    }
+}
+
+// Decides true the least variable that has no value. Where all firm clauses are true, it decides true every such variable, and shows
+// the model.
+fn decide(core: &mut Core, assumptions: &[Lit], firm: &[ClauseId], cursor: &mut Cursor) -> Turn
     requires stands { Stands assumptions.now core.old }
     requires quiet { AllQuiet core.old.watches.attached core.old.store core.old.trail.steps }
-    requires passed { Passed assumptions.now core.old.trail.steps cursor.old }
+    requires listed { NamesFirm firm.now core.old.store }
+    requires passed { Passed assumptions.now firm.now core.old cursor.old }
     requires assumed { AllOn core.old.trail.steps assumptions.now }
     ensures turn { TurnIs assumptions.now core.old core.new result }
     ensures keeps { Keeps core.old core.new }
     ensures tally { core.new.tally ≡ core.old.tally }
-    ensures passed { Passed assumptions.now core.new.trail.steps cursor.new }
+    ensures passed { Passed assumptions.now firm.now core.new cursor.new }
 {
-    let _ = assumptions;
-    core.trail.has_shape();
     core.watches.goes_on_following();
-    match next_free(&core.trail, cursor) {
+    match next_decision(core, assumptions, firm, cursor) {
         Some(lit) => {
             core.trail.decide(lit);
             Turn::Goes
         }
         None => {
+            decide_rest(&mut core.trail, *cursor);
+            core.trail.has_shape();
             show(&core.trail, core.model.as_mut_slice());
             Turn::Ends(Found::Sat)
         }
     }
 }
 
-// Decides the first assumption that is not true, or the least variable that has no value. The search ends where an assumption is
-// false, or where all variables have values.
+// Decides the first assumption that is not true, or decides true the least variable that has no value. The search ends where an
+// assumption is false, or where the assumptions and all firm clauses are true.
 pub(crate) fn choose(
     alloc: Global,
     core: &mut Core,
     assumptions: &[Lit],
+    firm: &[ClauseId],
     cursor: &mut Cursor,
 ) -> Result<Turn, Memory>
     requires stands { Stands assumptions.now core.old }
     requires quiet { AllQuiet core.old.watches.attached core.old.store core.old.trail.steps }
-    requires passed { Passed assumptions.now core.old.trail.steps cursor.old }
+    requires listed { NamesFirm firm.now core.old.store }
+    requires passed { Passed assumptions.now firm.now core.old cursor.old }
     ensures turn { IfOk result (TurnIs assumptions.now core.old core.new) }
     ensures keeps { Keeps core.old core.new }
     ensures tally { core.new.tally ≡ core.old.tally }
-    ensures passed { IfOk result (λ turn. Passed assumptions.now core.new.trail.steps cursor.new) }
+    ensures passed { IfOk result (λ turn. Passed assumptions.now firm.now core.new cursor.new) }
 {
     match next_assumption(&core.trail, assumptions, cursor) {
         Some(lit) => assume(alloc, core, assumptions, lit),
-        None => Ok(decide(core, assumptions, cursor)),
+        None => Ok(decide(core, assumptions, firm, cursor)),
     }
 }

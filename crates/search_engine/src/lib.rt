@@ -3,6 +3,8 @@
 
 mod choice;
 mod conflict;
+mod cursor;
+mod met;
 mod ready;
 pub mod search;
 pub mod state;

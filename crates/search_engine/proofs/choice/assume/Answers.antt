@@ -1,7 +1,7 @@
 use Rattle.std.proofs.Common.{◌≤◌, inl}
 use Rattle.sat_terms.specs.Literal.{var_of}
 use Rattle.watch_lists.proofs.Members.{All-has}
-use Rattle.search_engine.proofs.Choices.{decides, decides_assumed, decided_next, decided_keeps}
+use Rattle.search_engine.proofs.Choices.{decides, decides_assumed, decided_next, decided_keeps, decided_passed}
 use Rattle.search_engine.proofs.choice.assume.Goals as goal
 
 pub decide-requires-clause-declared : goal.decide-requires-clause-declared
@@ -17,6 +17,11 @@ pub returns-then-is_none-clause-keeps : goal.returns-then-is_none-clause-keeps
 returns-then-is_none-clause-keeps c =
     let d = decides c.args.core.now c.decide.new.self c.args.lit c.decide.ensures.declared c.decide.ensures.steps in
     decided_keeps c.args.assumptions.now _ _ c.args.lit d c.requires.stands.ready
+
+pub returns-then-is_none-clause-passed : goal.returns-then-is_none-clause-passed
+returns-then-is_none-clause-passed c =
+    let d = decides c.args.core.now c.decide.new.self c.args.lit c.decide.ensures.declared c.decide.ensures.steps in
+    decided_passed c.args.assumptions.now _ _ c.args.lit d
 
 pub core_of-requires-clause-decisions : goal.core_of-requires-clause-decisions
 core_of-requires-clause-decisions c = decides_assumed c.args.assumptions.now c.args.core.now.trail.steps c.args.lit c.requires.stands.first c.requires.assumed c.requires.untrue

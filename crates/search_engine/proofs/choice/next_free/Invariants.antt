@@ -6,7 +6,8 @@ use Rattle.search_engine.proofs.choice.next_free.Given as goal
 
 abbrev pub invariant-loop-cursor : goal.invariant-loop-cursor
 invariant-loop-cursor l = record {
-  same : l.cursor.assumption ≡ l.initial.cursor.assumption;
+  assumption : l.cursor.assumption ≡ l.initial.cursor.assumption;
+  clause : l.cursor.clause ≡ l.initial.cursor.clause;
   valued : (v : ℕ) → 0 < v → v < l.cursor.var → IsSome (value_on l.trail.steps (pos_lit v));
 }
 
