@@ -161,7 +161,7 @@ keeps_more a b c k l = record {
 }
 
 -- the firm clauses of before are those of now
-firm_before : (a b : List (Option Stored)) → Learns a b → (f : Assignment) → FirmTrue b f → FirmTrue a f
+pub firm_before : (a b : List (Option Stored)) → Learns a b → (f : Assignment) → FirmTrue b f → FirmTrue a f
 firm_before a b l f sat id h = let e = l.firm id h in rw (← e) (sat id (rw e h))
 
 -- what is found later was found before

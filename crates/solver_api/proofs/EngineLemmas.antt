@@ -1,16 +1,14 @@
 -- What stores say once they took a clause, and once they have learned.
-use Rattle.std.proofs.Common.{◌≡◌, ◌≤◌, ℕ, true, List, Option, inl, inr, refl, sym, ap, ◌∙◌, subst}
+use Rattle.std.proofs.Common.{◌≤◌, ℕ, List, Option, inl, inr, refl, sym, ap, ◌∙◌, subst}
 use Rattle.std.specs.Prelude.{IsSome}
 use Rattle.std.proofs.lemmas.Bool.{cases_eq}
 use Rattle.sat_terms.specs.Literal.{var_of}
-use Rattle.sat_terms.specs.Truth.{Assignment, clause_true}
 use Rattle.sat_terms.specs.Answer.{Within}
 use Rattle.normal_form.specs.Forms.{IsTautology, IsFormOf}
 use Rattle.normal_form.proofs.FormTruths.{true_same, true_back, tautology_true, all_same}
 use Rattle.clause_store.specs.declared.stored.Keep.TheVariants.{Firm}
-use Rattle.clause_store.specs.Stored.{Stored, slot, slot_lits, is_firm, SlotTrue, FirmTrue, Fills}
+use Rattle.clause_store.specs.Stored.{Stored, slot, slot_lits, Fills}
 use Rattle.clause_store.proofs.Slots.{FirmTrue-filled, FirmTrue-before, StoreTrue-filled}
-use Rattle.search_engine.specs.Searching.{Learns}
 use Rattle.solver_api.specs.Held.{Takes}
 
 -- a tautology is not stored
@@ -34,10 +32,3 @@ takes_form old new id form lits is fills = record {
         | inr other ↦ subst (λ x. Within n (slot_lits x)) (sym (fills.others j other)) (w j (subst (λ x. IsSome x) (fills.others j other) live))
       ];
 }
-
--- what makes the firm clauses true did before
-firm_slot : (x y : Option Stored) (f : Assignment) → (is_firm x ≡ true → y ≡ x) → SlotTrue f y → SlotTrue f x
-firm_slot x y f same h e = subst (λ z. clause_true f (slot_lits z) ≡ true) (same e) (h (subst (λ z. is_firm z ≡ true) (sym (same e)) e))
-
-pub firm_before : (old new : List (Option Stored)) → Learns old new → (f : Assignment) → FirmTrue new f → FirmTrue old f
-firm_before old new l f h id = firm_slot (slot old id) (slot new id) f (l.firm id) (h id)

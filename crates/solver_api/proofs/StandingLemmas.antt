@@ -15,7 +15,7 @@ use Rattle.solver_api.specs.Given.{part_true, GivenTrue}
 use Rattle.solver_api.specs.Held.{Held, Takes}
 use Rattle.solver_api.specs.Standing.{StandsFor, Stands}
 use Rattle.solver_api.proofs.PartLemmas.{given_less, given_more}
-use Rattle.solver_api.proofs.EngineLemmas.{firm_before}
+use Rattle.search_engine.proofs.Looping.{firm_before}
 
 -- a greater bound
 pub within_more : (m n : ℕ) (lits : List ℕ) → m ≤ n → Within m lits → Within n lits
