@@ -18,7 +18,7 @@ use Rattle.assumption_core.specs.Core.{DecidesAssumed}
 use Rattle.search_engine.specs.declared.state.Core.{Core}
 use Rattle.search_engine.specs.declared.cursor.Cursor.{Cursor}
 use Rattle.search_engine.specs.Searching.{IsReady, Learns, Keeps}
-use Rattle.search_engine.specs.Turns.{AllOn, KeepsTrue, AssumesFirst, Stands, Rises, Next, Passed}
+use Rattle.search_engine.specs.Turns.{AllOn, KeepsTrue, AssumesFirst, IsBetweenTurns, RankRises, Next, Passed}
 use Rattle.search_engine.proofs.Values.{true_in_front, true_longer, valued_kept, clauses_kept}
 
 -- what holds of the front of a list and of the next member
@@ -48,7 +48,7 @@ if_none_more None P Q more h = more h
 if_none_more (Some x) P Q more h = h
 
 -- the rank rises by a literal more
-pub rises_push : (t : List Step) (x : Step) → Rises t (t ++ x ∷ [])
+pub rises_push : (t : List Step) (x : Step) → RankRises t (t ++ x ∷ [])
 rises_push t x = record { rises = λ n le. let l = length_push t x in rank-push n t x (omega arith) }
 
 -- one step more, which is no decision, an assumption, or stands behind all assumptions
@@ -119,7 +119,7 @@ module _ (assumptions : List ℕ) (old new : Core) (l : ℕ) (d : Decides old ne
   }
 
   -- a decision is a turn that goes on
-  pub decided_next : GoesOn old.watches → Stands assumptions old → (has assumptions l ≡ true) ⊎ AllOn old.trail.steps assumptions → Next assumptions old new
+  pub decided_next : GoesOn old.watches → IsBetweenTurns assumptions old → (has assumptions l ≡ true) ⊎ AllOn old.trail.steps assumptions → Next assumptions old new
   decided_next goes stands chosen = record {
     stands = record {
       ready = decided_ready goes stands.ready;

@@ -23,7 +23,7 @@ use Rattle.search_engine.specs.declared.conflict.Turn.{Turn}
 use Rattle.search_engine.specs.declared.conflict.Turn.TheVariants.{Goes, Ends}
 use Rattle.search_engine.specs.declared.cursor.Cursor.{Cursor}
 use Rattle.search_engine.specs.Searching.{AttachesLive, IsReady, Learns, Keeps, FoundIs}
-use Rattle.search_engine.specs.Turns.{AssumesFirst, NamesFirm, Stands, Rises, Passed, TurnIs}
+use Rattle.search_engine.specs.Turns.{AssumesFirst, NamesFirm, IsBetweenTurns, RankRises, Passed, TurnIs}
 use Rattle.search_engine.proofs.Choices.{learns_same, passed_kept}
 use Rattle.search_engine.proofs.Values.{true_longer}
 
@@ -113,7 +113,7 @@ module _ (assumptions : List ℕ) (old new : Core) (p : Propagates old new) wher
     size = p.size;
   }
 
-  pub propagated_stands : Stands assumptions old → Stands assumptions new
+  pub propagated_stands : IsBetweenTurns assumptions old → IsBetweenTurns assumptions new
   propagated_stands stands =
       let ready = stands.ready in
       let same = p.grown.declared in
@@ -215,7 +215,7 @@ started_ready assumptions old new ready store trail watches model = record {
 }
 
 pub started_stands : (assumptions : List ℕ) (old new : Core) → IsReady assumptions old → IsTrail old.trail.steps old.trail.level → old.trail.level ≡ 0 → new.store ≡ old.store → new.trail ≡ old.trail → new.watches ≡ old.watches → new.model ≡ old.model
-    → new.tally.is_spent ≡ false → new.tally.owes ≡ None → Stands assumptions new
+    → new.tally.is_spent ≡ false → new.tally.owes ≡ None → IsBetweenTurns assumptions new
 started_stands assumptions old new ready shape root store trail watches model unspent settled = record {
   ready = started_ready assumptions old new ready store trail watches model;
   first = rw trail (first_at_root assumptions old.trail.steps old.trail.level shape root);
@@ -224,5 +224,5 @@ started_stands assumptions old new ready shape root store trail watches model un
 }
 
 -- the measure falls as the rank rises
-pub measure_falls : (n n' : ℕ) (t t' : List Step) → n' ≡ n → length t' ≤ n' → Rises t t' → 3 ^ n' - rank n' t' < 3 ^ n - rank n t
+pub measure_falls : (n n' : ℕ) (t t' : List Step) → n' ≡ n → length t' ≤ n' → RankRises t t' → 3 ^ n' - rank n' t' < 3 ^ n - rank n t
 measure_falls n n' t t' e room up = rw e (let b = rank-bound n t' in let r = up.rises n (rw e at room) in omega arith)

@@ -1,5 +1,5 @@
 -- What a search needs, keeps and finds.
-use Rattle.std.specs.Prelude.{◌≡◌, ◌<◌, ◌≤◌, ◌^◌, ℕ, Bool, true, List, length, Option, IsSome, is_some, IsTrue}
+use Rattle.std.specs.Prelude.{◌≡◌, ◌<◌, ◌≤◌, ℕ, Bool, true, List, length, Option, IsSome, is_some, IsTrue}
 use Rattle.sat_terms.specs.Literal.{has, pos_lit}
 use Rattle.sat_terms.specs.Truth.{Assignment, values}
 use Rattle.sat_terms.specs.Answer.{Within, IsModel, IsCore}
@@ -8,7 +8,7 @@ use Rattle.trail_state.specs.declared.trail.Step.{Step}
 use Rattle.trail_state.specs.Trail.{true_on, value_on}
 use Rattle.rooted_trails.specs.Rooted.{Rooted}
 use Rattle.watch_lists.specs.Propagation.{follows}
-use Rattle.conflict_analysis.specs.Counting.{Counted}
+use Rattle.conflict_analysis.specs.Counting.{Counted, IsDue}
 use Rattle.search_engine.specs.declared.state.Core.{Core}
 use Rattle.search_engine.specs.declared.state.Found.{Found}
 use Rattle.search_engine.specs.declared.state.Found.TheVariants as found
@@ -62,11 +62,10 @@ pub record HasModel (assumptions : List ℕ) (old new : Core) : Type 0 where
   pub valued : AllValued new.trail.declared new.trail.steps
   pub shown : Shows new.model.items new.trail.steps
 
--- so many conflicts were counted, which is the budget and a bound
+-- so many conflicts were counted, and the budget is used up by them
 pub record IsSpent (n : ℕ) (t : Counted) : Type 0 where
   pub counted : n ≡ t.count
-  pub stated : n ≡ t.budget
-  pub bound : n < 2 ^ 62
+  pub due : IsDue n t.budget
   pub spent : t.is_spent ≡ true
 
 -- what is found

@@ -27,14 +27,14 @@ AssumesFirst assumptions t =
     (i : ℕ) → i < length t → (step t i).reason ≡ Decision → (has assumptions (step t i).lit ≡ true) ⊎ AllOn (take i t) assumptions
 
 -- What holds between two turns of a search under these assumptions.
-pub record Stands (assumptions : List ℕ) (c : Core) : Type 0 where
+pub record IsBetweenTurns (assumptions : List ℕ) (c : Core) : Type 0 where
   pub ready : IsReady assumptions c
   pub first : AssumesFirst assumptions c.trail.steps
   pub unspent : c.tally.is_spent ≡ false
   pub settled : c.tally.owes ≡ None
 
 -- The rank of a trail has risen, over however many places it is counted.
-pub record Rises (old new : List Step) : Type 0 where
+pub record RankRises (old new : List Step) : Type 0 where
   pub rises : (n : ℕ) → length new ≤ n → rank n old < rank n new
 
 -- A decision of the old trail and all behind it gave way to one implied literal.
@@ -48,8 +48,8 @@ pub record Jumped (old new : List Step) : Type 0 where
 
 -- A turn of a search goes on: the rank of the trail has risen.
 pub record Next (assumptions : List ℕ) (old new : Core) : Type 0 where
-  pub stands : Stands assumptions new
-  pub rises : Rises old.trail.steps new.trail.steps
+  pub stands : IsBetweenTurns assumptions new
+  pub rises : RankRises old.trail.steps new.trail.steps
 
 -- the list holds the ids of the firm clauses, and no other
 abbrev pub NamesFirm : List ℕ → List (Option Stored) → Type 0

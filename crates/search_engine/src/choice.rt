@@ -6,7 +6,7 @@ ghost use Rattle.trail_state.specs.Trail.{true_on, value_on};
 ghost use Rattle.rooted_trails.specs.Rooted.{Rooted};
 ghost use Rattle.watch_lists.specs.Propagation.{AllQuiet};
 ghost use Rattle.search_engine.specs.Searching.{IsReady, Keeps, AllValued, Shows};
-ghost use Rattle.search_engine.specs.Turns.{AllOn, KeepsTrue, ClausesOn, NamesFirm, Stands, Passed, TurnIs};
+ghost use Rattle.search_engine.specs.Turns.{AllOn, KeepsTrue, ClausesOn, NamesFirm, IsBetweenTurns, Passed, TurnIs};
 
 use crate::conflict::Turn;
 use crate::cursor::Cursor;
@@ -77,7 +77,7 @@ fn show(trail: &Trail, model: &mut [bool])
 
 // Decides an assumption that is not true, or finds the core where it is false.
 fn assume(alloc: Global, core: &mut Core, assumptions: &[Lit], lit: Lit) -> Result<Turn, Memory>
-    requires stands { Stands assumptions.now core.old }
+    requires stands { IsBetweenTurns assumptions.now core.old }
     requires assumed { has assumptions.now lit ≡ true }
     requires untrue { true_on core.old.trail.steps lit ≡ false }
     ensures turn { IfOk result (TurnIs assumptions.now core.old core.new) }
@@ -136,7 +136,7 @@ fn decide_rest(trail: &mut Trail, mut cursor: Cursor)
 // Decides true the least variable that has no value. Where all firm clauses are true, it decides true every such variable, and shows
 // the model.
 fn decide(core: &mut Core, assumptions: &[Lit], firm: &[ClauseId], cursor: &mut Cursor) -> Turn
-    requires stands { Stands assumptions.now core.old }
+    requires stands { IsBetweenTurns assumptions.now core.old }
     requires quiet { AllQuiet core.old.watches.attached core.old.store core.old.trail.steps }
     requires listed { NamesFirm firm.now core.old.store }
     requires passed { Passed assumptions.now firm.now core.old cursor.old }
@@ -170,7 +170,7 @@ pub(crate) fn choose(
     firm: &[ClauseId],
     cursor: &mut Cursor,
 ) -> Result<Turn, Memory>
-    requires stands { Stands assumptions.now core.old }
+    requires stands { IsBetweenTurns assumptions.now core.old }
     requires quiet { AllQuiet core.old.watches.attached core.old.store core.old.trail.steps }
     requires listed { NamesFirm firm.now core.old.store }
     requires passed { Passed assumptions.now firm.now core.old cursor.old }

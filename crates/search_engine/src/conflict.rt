@@ -6,7 +6,7 @@ ghost use Rattle.clause_store.specs.Stored.{slot, slot_lits, StoreTrue};
 ghost use Rattle.trail_state.specs.Clauses.{FalseOn};
 ghost use Rattle.conflict_analysis.specs.Learning.{Owes};
 ghost use Rattle.search_engine.specs.Searching.{IsReady, Keeps};
-ghost use Rattle.search_engine.specs.Turns.{AssumesFirst, Stands, Next, Jumped, TurnIs};
+ghost use Rattle.search_engine.specs.Turns.{AssumesFirst, IsBetweenTurns, Next, Jumped, TurnIs};
 
 use crate::state::{Core, Found, Spent};
 use clause_store::stored::Keep;
@@ -35,7 +35,7 @@ pub(crate) fn resolve(
     assumptions: &[Lit],
     conflict: ClauseId,
 ) -> Result<Turn, Memory>
-    requires stands { Stands assumptions.now core.old }
+    requires stands { IsBetweenTurns assumptions.now core.old }
     requires live { IsSome (slot core.old.store conflict) }
     requires is_false { FalseOn core.old.trail.steps (slot_lits (slot core.old.store conflict)) }
     ensures turn { IfOk result (TurnIs assumptions.now core.old core.new) }

@@ -4,7 +4,7 @@ ghost use Rattle.sat_terms.specs.Literal.{has};
 ghost use Rattle.sat_terms.specs.Answer.{Within};
 ghost use Rattle.clause_store.specs.Stored.{slot};
 ghost use Rattle.clause_store.specs.Listing.{times};
-ghost use Rattle.trail_state.specs.Trail.{Trace};
+ghost use Rattle.trail_state.specs.Trail.{Trace, IsBack};
 ghost use Rattle.rooted_trails.specs.Rooted.{Rooted};
 ghost use Rattle.watch_lists.specs.Propagation.{follows};
 ghost use Rattle.search_engine.specs.Searching.{StoreWithin};
@@ -36,8 +36,8 @@ fn attach_all(watches: &mut Watches, store: &Store, ids: &[ClauseId]) -> Result<
 impl Core {
     ghost use Rattle.search_engine.specs.Searching.{IsReady};
 
-    // Declares the variables up to `vars`, and begins with nothing attached and a model of so many values. No more may be declared
-    // before.
+    // Declares the variables up to `vars`, and begins with nothing attached and a model of so many values. At most these may be
+    // declared already.
     fn clear(&mut self, alloc: Global, vars: u32) -> Result<(), Memory>
         requires few { vars ≤ 4194303 }
         requires declared { self.old.trail.declared ≤ vars }
@@ -61,8 +61,8 @@ impl Core {
     }
 
     /// Makes the core ready to search: declares the variables up to `vars`, attaches every live clause and no other, and gives
-    /// the model so many values. The variables of the clauses must be among these, and no more may be declared. After `Memory`
-    /// the clauses and the trail's literals are as before, and maybe more variables are declared.
+    /// the model so many values. The variables of the clauses must be among these, and at most these may be declared already.
+    /// After `Memory` the clauses and the trail's literals are as before, and maybe more variables are declared.
     pub fn prepare(&mut self, alloc: Global, vars: u32) -> Result<(), Memory>
         requires few { vars ≤ 4194303 }
         requires rooted { Rooted self.old.store self.old.trail.steps }
@@ -81,10 +81,12 @@ impl Core {
         attach_all(&mut self.watches, &self.store, self.store.redundant_ids())
     }
 
-    /// Goes back to the root, where the trail still has its reasons; clauses and model stay. `prepare` makes the core ready for another search.
+    /// Goes back to the root: the literals of the root stay on the trail, and it still has its reasons. Clauses and model stay.
+    /// `prepare` makes the core ready for another search.
     pub fn rest(&mut self)
         requires { Rooted self.old.store self.old.trail.steps }
         ensures rooted { Rooted self.new.store self.new.trail.steps }
+        ensures back { IsBack self.old.trail self.new.trail 0 }
         ensures level { self.new.trail.level ≡ 0 }
         ensures declared { self.new.trail.declared ≡ self.old.trail.declared }
         ensures store { self.new.store ≡ self.old.store }

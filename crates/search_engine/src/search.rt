@@ -1,7 +1,7 @@
 //! The search.
 ghost use Rattle.std.specs.Prelude.{◌≡◌, ◌≤◌, ◌^◌, IfOk};
 ghost use Rattle.search_engine.specs.Searching.{IsReady, Keeps, FoundIs};
-ghost use Rattle.search_engine.specs.Turns.{NamesFirm, Stands, Passed, TurnIs};
+ghost use Rattle.search_engine.specs.Turns.{NamesFirm, IsBetweenTurns, Passed, TurnIs};
 
 use crate::choice::choose;
 use crate::conflict::{Turn, resolve};
@@ -20,7 +20,7 @@ fn take_turn(
     firm: &[ClauseId],
     cursor: &mut Cursor,
 ) -> Result<Turn, Memory>
-    requires stands { Stands assumptions.now core.old }
+    requires stands { IsBetweenTurns assumptions.now core.old }
     requires listed { NamesFirm firm.now core.old.store }
     requires passed { Passed assumptions.now firm.now core.old cursor.old }
     ensures turn { IfOk result (TurnIs assumptions.now core.old core.new) }

@@ -2,7 +2,7 @@
 ghost use Rattle.std.specs.Prelude.{◌≡◌, []};
 
 use clause_store::store::Store;
-use conflict_analysis::tally::Tally;
+use conflict_analysis::tally::{MOST_CONFLICTS, Tally};
 use sat_model::lists::Lits;
 use std::alloc::Global;
 use trail_state::trail::Trail;
@@ -18,8 +18,8 @@ pub struct Budget {
 
 /// The budget that bounds nothing.
 pub const NO_BUDGET: Budget = Budget {
-    conflicts: 4_611_686_018_427_387_904,
-    callbacks: 4_611_686_018_427_387_904,
+    conflicts: MOST_CONFLICTS,
+    callbacks: MOST_CONFLICTS,
 };
 
 /// What was used up when a search stopped.
@@ -36,7 +36,7 @@ pub enum Found {
     Sat,
     /// There is none: these assumptions fail together.
     Unsat(Lits),
-    /// The budget was used up before.
+    /// The budget was used up before an answer was found.
     Spent(Spent),
 }
 

@@ -1,12 +1,12 @@
 use Rattle.std.proofs.Common.{◌≡◌, ◌-◌, ◌^◌}
 use Rattle.trail_state.specs.Rank.{rank}
 use Rattle.search_engine.specs.Searching.{Keeps}
-use Rattle.search_engine.specs.Turns.{NamesFirm, Stands, Passed}
+use Rattle.search_engine.specs.Turns.{NamesFirm, IsBetweenTurns, Passed}
 use Rattle.search_engine.proofs.search.search.Given as goal
 
 abbrev pub invariant-loop-firm : goal.invariant-loop-firm
 invariant-loop-firm l = record {
-  stands : Stands l.assumptions l.core;
+  stands : IsBetweenTurns l.assumptions l.core;
   listed : NamesFirm l.firm.items l.core.store;
   passed : Passed l.assumptions l.firm.items l.core l.cursor;
   keeps : Keeps l.fn.core l.core;
