@@ -95,8 +95,8 @@ fn assume(alloc: Global, core: &mut Core, assumptions: &[Lit], lit: Lit) -> Resu
     Ok(Turn::Ends(Found::Unsat(failed)))
 }
 
-// The variable that is to be decided next, as a true literal: the least that has no value. There is none where all firm clauses are
-// true.
+// The variable that is to be decided next, as a true literal: the least that has no value. There is none where all firm clauses
+// are true.
 fn next_decision(
     core: &Core,
     assumptions: &[Lit],
@@ -133,8 +133,8 @@ fn decide_rest(trail: &mut Trail, mut cursor: Cursor)
     }
 }
 
-// Decides true the least variable that has no value. Where all firm clauses are true, it decides true every such variable, and shows
-// the model.
+// Decides true the least variable that has no value. Where all firm clauses are true, it decides true every such variable, and
+// shows the model.
 fn decide(core: &mut Core, assumptions: &[Lit], firm: &[ClauseId], cursor: &mut Cursor) -> Turn
     requires stands { IsBetweenTurns assumptions.now core.old }
     requires quiet { AllQuiet core.old.watches.attached core.old.store core.old.trail.steps }

@@ -27,8 +27,8 @@ pub(crate) enum Turn {
     Ends(Found),
 }
 
-// Goes back to the highest level of a false clause, learns from it there, and assigns what that asserts. Where the clause is false
-// at the root, no assignment makes the stored clauses true.
+// Goes back to the highest level of a false clause, learns from it there, and assigns what that asserts. Where the clause is
+// false at the root, no assignment makes the stored clauses true.
 pub(crate) fn resolve(
     alloc: Global,
     core: &mut Core,

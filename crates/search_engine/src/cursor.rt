@@ -1,6 +1,6 @@
 //! How far a search has looked.
-/// How far a search has looked since it last went back: the assumptions before this place are true, so are the firm clauses before
-/// this place of their list, and the variables below this one have values.
+/// How far a search has looked since it last went back: the assumptions before this place are true, so are the firm clauses
+/// before this place of their list, and the variables below this one have values.
 #[derive(Clone, Copy)]
 pub(crate) struct Cursor {
     pub(crate) assumption: usize,

@@ -39,14 +39,14 @@ fn take_turn(
 
 /// Looks for a model of the stored clauses and of the assumptions, by conflict-driven search (Marques Silva, Sakallah 1996;
 /// assumptions as in Eén, Sörensson, MiniSat 2003). It propagates, learns from each false clause at the highest level of its
-/// literals, decides the assumptions in order, and then decides true the least variable that has no value. It ends with a model as
-/// soon as the assumptions and every firm clause are true; the variables without a value are then decided true.
+/// literals, decides the assumptions in order, and then decides true the least variable that has no value. It ends with a model
+/// as soon as the assumptions and every firm clause are true; the variables without a value are then decided true.
 ///
-/// The core must be ready for the assumptions, and its trail at the root. `Sat` says that the core's model makes the firm clauses
-/// and the assumptions true; its values are those of the trail, where all declared variables have one. `Unsat` has a core: some of
-/// the assumptions, none twice, that no assignment of the stored clauses makes true. `Spent` comes only where as many conflicts
-/// were counted as the budget says, below 2^62, and a clause was false above the root again. Whatever is answered, `Memory` too,
-/// the firm clauses stay, what was learned follows from the clauses, and the trail has its reasons.
+/// The core must be ready for the assumptions, and its trail at the root. `Sat` says that the core's model makes the firm
+/// clauses and the assumptions true; its values are those of the trail, where all declared variables have one. `Unsat` has a
+/// core: some of the assumptions, none twice, that no assignment of the stored clauses makes true. `Spent` comes only where as
+/// many conflicts were counted as the budget says, below 2^62, and a clause was false above the root again. Whatever is
+/// answered, `Memory` too, the firm clauses stay, what was learned follows from the clauses, and the trail has its reasons.
 pub fn search(
     alloc: Global,
     core: &mut Core,
