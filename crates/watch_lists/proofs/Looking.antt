@@ -1,12 +1,18 @@
 -- What the look at a clause finds.
-use Rattle.std.proofs.Common.{◌≡◌, ◌≢◌, ℕ, ◌<◌, Bool, true, false, cond, List, length, get_or, take, inl, inr, refl, sym, ap, ◌∙◌, Option, Some, None}
-use Rattle.std.proofs.lemmas.Bool.{false≢true, cases_eq}
-use Rattle.sat_terms.specs.Literal.{neg, var_of}
+use Rattle.std.proofs.Common.{◌≡◌, ◌≢◌, ℕ, ◌<◌, ◌≤◌, eqb, arith, Bool, true, false, cond, List, length, get_or, take, inl, inr, refl, sym, ap, ◌∙◌, Option, Some, None}
+use Rattle.std.proofs.lemmas.Bool.{false≢true, false_from_ne_true, eq-eqb}
+use Rattle.std.proofs.lemmas.List.{take_all}
+use Rattle.std.proofs.lemmas.List.Folds.{list_any_at}
+use Rattle.sat_terms.specs.Literal.{neg, var_of, has}
+use Rattle.clause_store.specs.Stored.{Stored, slot, slot_lits, is_firm}
+use Rattle.clause_store.specs.Listing.{times, HasEachOnce, holds_at}
+use Rattle.clause_store.proofs.Counts.{times_place}
 use Rattle.sat_terms.proofs.Literals.{var_of-neg, neg-other}
 use Rattle.trail_state.specs.declared.trail.Step.{Step}
 use Rattle.trail_state.specs.Trail.{step, true_on, value_on, IsTrail}
 use Rattle.trail_state.specs.Clauses.{FalseOn, IsUnit, IsQuiet}
 use Rattle.trail_state.proofs.Places.{place_of_true}
+use Rattle.watch_lists.specs.Propagation.{Rests}
 use Rattle.watch_lists.proofs.Members.{has_at, has_taken}
 
 -- what is known of the literals that were looked at
@@ -29,37 +35,31 @@ not_true_if_free t l h m = go (true_on t l) (true_on t (neg l)) h m where
   go false true e m = let f : Some false ≡ None = e in cc
   go false false e m = false≢true m
 
--- a literal and its negation are not both true
-not_both : (t : List Step) (top l : ℕ) → IsTrail t top → true_on t l ≡ true → true_on t (neg l) ≡ true → ⊥
-not_both t top l shape h m =
-    let a = place_of_true t l h in
-    let b = place_of_true t (neg l) m in
-    let same = shape.apart a.0 b.0 a.1 b.1 (ap var_of a.2 ∙ sym (var_of-neg l) ∙ sym (ap var_of b.2)) in
-    neg-other l (sym b.2 ∙ sym (ap (λ i. (step t i).lit) same) ∙ a.2)
-
 -- a clause with a true literal, and one with two literals that have no value
-pub quiet_true : (t : List Step) (top : ℕ) (c : List ℕ) (i x : ℕ) → IsTrail t top → i < length c → x ≡ get_or c i x → value_on t x ≡ Some true → IsQuiet t c
-quiet_true t top c i x shape in' is v =
-    let h = true_from_value t x v in
-    let m = has_at c i x in' is in
-    record {
-      not_false = λ f. not_both t top x shape h (f x m);
-      not_unit = λ l u.
-          elim (cases_eq x l) [
-            | inl e ↦ let q : Some true ≡ None = sym v ∙ ap (value_on t) e ∙ u.free in cc
-            | inr n ↦ not_both t top x shape h (u.others x m n)
-          ];
-    }
+pub rests_true : (t : List Step) (c : List ℕ) (i x : ℕ) → i < length c → x ≡ get_or c i x → value_on t x ≡ Some true → Rests t t c
+rests_true t c i x in' is v = inl (record { lit = x; holds = has_at c i x in' is; on = true_from_value t x v })
 
-pub quiet_two : (t : List Step) (c : List ℕ) (i x y : ℕ) → i < length c → x ≡ get_or c i x → value_on t x ≡ None → IsUnit t (take i c) y → y ≢ x → IsQuiet t c
-quiet_two t c i x y in' is v u n =
-    let m = has_at c i x in' is in
-    let m' = has_taken i c y u.holds in
-    record {
-      not_false = λ f. not_true_if_free t x v (f x m);
-      not_unit = λ l w.
-          elim (cases_eq x l) [
-            | inl e ↦ not_true_if_free t y u.free (w.others y m' (λ q. n (q ∙ sym e)))
-            | inr k ↦ not_true_if_free t x v (w.others x m k)
-          ];
-    }
+not_false_if_free : (t : List Step) (l : ℕ) → value_on t l ≡ None → true_on t (neg l) ≡ false
+not_false_if_free t l h = false_from_ne_true (true_on t (neg l)) (λ m. not_true_if_free t l h m)
+
+pub rests_two : (t : List Step) (c : List ℕ) (i x y : ℕ) → i < length c → x ≡ get_or c i x → value_on t x ≡ None → IsUnit t (take i c) y → y ≢ x → Rests t t c
+rests_two t c i x y in' is v u n =
+    inr
+    (record {
+      one = y;
+      other = x;
+      holds_one = has_taken i c y u.holds;
+      holds_other = has_at c i x in' is;
+      apart = n;
+      one_open = not_false_if_free t y u.free;
+      other_open = not_false_if_free t x v;
+    })
+
+-- the store's ids of a literal name each firm clause that holds it
+pub names_each : (s : List (Option Stored)) (lit : ℕ) (ids : List ℕ) (n k : ℕ) → HasEachOnce (holds_at s lit) ids → is_firm (slot s k) ≡ true → has (slot_lits (slot s k)) lit ≡ true → length ids ≤ n → has (take n ids) k ≡ true
+names_each s lit ids n k each firm holds all =
+    let once : times ids k ≡ 1 = rw (firm, holds) at (each.once k) in
+    let at = times_place ids k (omega arith) in
+    rw (take_all n ids all, ← at.2) (has_at_place ids at.0 at.1) where
+      has_at_place : (c : List ℕ) (i : ℕ) → i < length c → has c (get_or c i 0) ≡ true
+      has_at_place c i in' = list_any_at (λ x. eqb x (get_or c i 0)) c i 0 in' (eq-eqb (get_or c i 0) (get_or c i 0) refl)

@@ -20,7 +20,6 @@ pub(crate) enum Found {
 pub(crate) fn examine(trail: &Trail, clause: &[Lit]) -> Found
     ensures { FoundIs result trail.now.steps clause.now }
 {
-    trail.has_shape();
     let mut free: Option<Lit> = None;
     for lit in clause {
         match trail.value(*lit) {

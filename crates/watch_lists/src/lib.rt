@@ -2,6 +2,7 @@
 #![tactic(auto)]
 
 mod examine;
+mod marks;
 #[cfg(test)]
 mod tests;
 pub mod watches;

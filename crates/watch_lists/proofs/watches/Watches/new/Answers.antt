@@ -1,5 +1,7 @@
-use Rattle.watch_lists.proofs.Following.{always}
+use Rattle.std.proofs.Common.{refl}
+use Rattle.watch_lists.specs.Propagation.{ids_of}
 use Rattle.watch_lists.proofs.watches.Watches.new.Goals as goal
 
-pub returns-clause-follows : goal.returns-clause-follows
-returns-clause-follows c = λ s t. always _ _ _
+pub returns-clause-attached : goal.returns-clause-attached
+unfolding ids_of
+returns-clause-attached c = rw (c.new.ensures, c.new-2.ensures.items) refl

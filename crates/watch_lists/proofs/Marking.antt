@@ -1,0 +1,104 @@
+-- Laws of sets of ids that are kept as marks.
+use Rattle.std.proofs.Common.{◌≡◌, ℕ, zero, suc, ◌+◌, ◌<◌, ◌≤◌, Bool, true, false, ◌||◌, not, ◌&&◌, eqb, List, [], ◌∷◌, ◌++◌, length, get_or, set, inl, inr, refl, sym, ap, ◌∙◌, arith}
+use Rattle.std.proofs.lemmas.Bool.{cases_eq, cases_lt, eq-eqb, ne_eqb, false_from_ne_true, eqb-true}
+use Rattle.std.proofs.lemmas.List.{get_or-set_same, get_or-set_other, get_or_past, get_or_append_left}
+use Rattle.std.proofs.lemmas.List.Folds.{list_any-append}
+use Rattle.sat_terms.specs.Literal.{has}
+use Rattle.watch_lists.specs.Propagation.{marked, ids_from, ids_of}
+
+-- the marked ids from a number on are those with a mark
+low : (n : ℕ) (marks : List Bool) (k : ℕ) → k < n → has (ids_from n marks) k ≡ false
+low n [] k lt = refl
+low n (true ∷ marks) k lt = rw (ne_eqb n k (λ e. absurd (omega arith)), low (suc n) marks k (omega arith)) refl
+low n (false ∷ marks) k lt = low (suc n) marks k (omega arith)
+
+from_at : (n : ℕ) (marks : List Bool) (k j : ℕ) → j ≡ n + k → has (ids_from n marks) j ≡ marked marks k
+from_at n [] k j is = refl
+from_at n (true ∷ marks) zero j is = rw (eq-eqb n j (omega arith)) refl
+from_at n (false ∷ marks) zero j is = low (suc n) marks j (omega arith)
+from_at n (true ∷ marks) (suc k) j is = rw (ne_eqb n j (λ q. absurd (omega arith))) (from_at (suc n) marks k j (omega arith))
+from_at n (false ∷ marks) (suc k) j is = from_at (suc n) marks k j (omega arith)
+
+pub has-ids_of : (marks : List Bool) (k : ℕ) → has (ids_of marks) k ≡ marked marks k
+unfolding ids_of
+has-ids_of marks k = from_at 0 marks k k (omega arith)
+
+-- a mark that is not set changes nothing
+from_longer : (n : ℕ) (marks : List Bool) → ids_from n (marks ++ false ∷ []) ≡ ids_from n marks
+from_longer n [] = refl
+from_longer n (true ∷ marks) = ap (λ ids. n ∷ ids) (from_longer (suc n) marks)
+from_longer n (false ∷ marks) = from_longer (suc n) marks
+
+pub ids_longer : (marks : List Bool) → ids_of (marks ++ false ∷ []) ≡ ids_of marks
+unfolding ids_of
+ids_longer marks = from_longer 0 marks
+
+pub marked_longer : (marks : List Bool) (k : ℕ) → marked (marks ++ false ∷ []) k ≡ marked marks k
+marked_longer [] zero = refl
+marked_longer [] (suc k) = refl
+marked_longer (b ∷ marks) zero = refl
+marked_longer (b ∷ marks) (suc k) = marked_longer marks k
+
+-- one mark more, and one less
+or_true : (b : Bool) → (b || true) ≡ true
+or_true true = refl
+or_true false = refl
+
+or_false : (b : Bool) → (b || false) ≡ b
+or_false true = refl
+or_false false = refl
+
+and_true : (b : Bool) → (b && true) ≡ b
+and_true true = refl
+and_true false = refl
+
+and_false : (b : Bool) → (b && false) ≡ false
+and_false true = refl
+and_false false = refl
+
+pub marked_set : (marks : List Bool) (at k : ℕ) → at < length marks → marked (set marks at true) k ≡ (marked marks k || eqb at k)
+marked_set marks at k in' =
+    elim (cases_eq k at) [
+      | inl e ↦ rw (e, eq-eqb at at refl) (get_or-set_same marks at true false in' ∙ sym (or_true (marked marks at)))
+      | inr n ↦ rw (ne_eqb at k (λ q. n (sym q))) (get_or-set_other marks at k true false n ∙ sym (or_false (marked marks k)))
+    ]
+
+pub marked_unset : (marks : List Bool) (at k : ℕ) → at < length marks → marked (set marks at false) k ≡ (marked marks k && not (eqb k at))
+marked_unset marks at k in' =
+    elim (cases_eq k at) [
+      | inl e ↦ rw (e, eq-eqb at at refl) (get_or-set_same marks at false false in' ∙ sym (and_false (marked marks at)))
+      | inr n ↦ rw (ne_eqb k at n) (get_or-set_other marks at k false false n ∙ sym (and_true (marked marks k)))
+    ]
+
+pub unmarked_past : (marks : List Bool) (at k : ℕ) → length marks ≤ at → marked marks k ≡ (marked marks k && not (eqb k at))
+unmarked_past marks at k out =
+    elim (cases_eq k at) [
+      | inl e ↦ rw (e, eq-eqb at at refl) (get_or_past marks at false out ∙ sym (and_false (marked marks at)))
+      | inr n ↦ rw (ne_eqb k at n) (sym (and_true (marked marks k)))
+    ]
+
+-- members of two lists
+pub has-append : (a b : List ℕ) (k : ℕ) → has (a ++ b) k ≡ (has a k || has b k)
+has-append a b k = list_any-append (λ x. eqb x k) a b
+
+pub has_both : (marks : List Bool) (ids : List ℕ) (k : ℕ) → has (ids_of marks ++ ids) k ≡ (marked marks k || has ids k)
+has_both marks ids k = has-append (ids_of marks) ids k ∙ ap (λ b. b || has ids k) (has-ids_of marks k)
+
+-- marks and ids that are no marks, with one mark more, and without one id
+pub one_listed : (old new : List Bool) (ids : List ℕ) (id k : ℕ) → ((j : ℕ) → marked new j ≡ (marked old j || eqb id j)) → has (ids_of new ++ ids) k ≡ (has (ids_of old ++ ids) k || eqb id k)
+one_listed old new ids id k more = has_both new ids k ∙ rw (more k, has_both old ids k) (swap (marked old k) (eqb id k) (has ids k)) where
+  swap : (a b d : Bool) → ((a || b) || d) ≡ ((a || d) || b)
+  swap true b d = refl
+  swap false true true = refl
+  swap false true false = refl
+  swap false false true = refl
+  swap false false false = refl
+
+pub without_both : (old new : List Bool) (ids ids' : List ℕ) (id k : ℕ) → ((j : ℕ) → marked new j ≡ (marked old j && not (eqb j id))) → has ids' k ≡ (has ids k && not (eqb k id)) → has (ids_of new ++ ids') k ≡ (has (ids_of old ++ ids) k && not (eqb k id))
+without_both old new ids ids' id k less less' = has_both new ids' k ∙ rw (less k, less', has_both old ids k) (join (marked old k) (has ids k) (not (eqb k id))) where
+  join : (a b d : Bool) → ((a && d) || (b && d)) ≡ ((a || b) && d)
+  join true b true = refl
+  join true true false = refl
+  join true false false = refl
+  join false true d = refl
+  join false false d = refl

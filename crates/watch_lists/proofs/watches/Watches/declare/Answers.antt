@@ -1,5 +1,0 @@
-use Rattle.watch_lists.proofs.Following.{always}
-use Rattle.watch_lists.proofs.watches.Watches.declare.Goals as goal
-
-pub returns-clause-follows : goal.returns-clause-follows
-returns-clause-follows c = λ s t h. always _ _ _
