@@ -1,6 +1,6 @@
 -- Laws of turns that decide.
 use Rattle.std.proofs.Common.{◌≡◌, ℕ, ◌+◌, ◌<◌, true, false, List, [], ◌∷◌, ◌++◌, length, get_or, take, ◌⊎◌, inl, inr, refl, sym, ap, ◌∙◌, subst, arith, Option, Some, None}
-use Rattle.std.specs.Prelude.{IsTrue, IfNone}
+use Rattle.std.specs.Prelude.{IfNone}
 use Rattle.std.proofs.lemmas.Bool.{false≢true}
 use Rattle.std.proofs.lemmas.List.{take-append-le, take_at, length_push}
 use Rattle.sat_terms.specs.Literal.{has, pos_lit}
@@ -12,7 +12,7 @@ use Rattle.trail_state.proofs.Changes.{step_old, step_new, old_or_new}
 use Rattle.trail_state.proofs.Ranks.{rank-push}
 use Rattle.rooted_trails.specs.Rooted.{Rooted}
 use Rattle.rooted_trails.proofs.Reasons.{rooted_push}
-use Rattle.watch_lists.specs.Propagation.{Watching, follows}
+use Rattle.watch_lists.specs.Propagation.{Watching, Follows}
 use Rattle.watch_lists.proofs.Members.{has_more}
 use Rattle.assumption_core.specs.Core.{DecidesAssumed}
 use Rattle.search_engine.specs.declared.state.Core.{Core}
@@ -76,7 +76,7 @@ learns_same s = record { firm = λ id h. refl; no_more = λ id h. refl; implied 
 
 -- lists that go on following a trail as it grows
 abbrev pub GoesOn : Watching → Type 0
-GoesOn w = (s : List (Option Stored)) (t t' : Trace) (more : List Step) → t'.steps ≡ t.steps ++ more → IsTrue (follows w s t) → IsTrue (follows w s t')
+GoesOn w = (s : List (Option Stored)) (t t' : Trace) (more : List Step) → t'.steps ≡ t.steps ++ more → Follows w s t → Follows w s t'
 
 -- the step of a decision at a level
 abbrev pub decision : ℕ → ℕ → Step

@@ -1,6 +1,6 @@
 -- What a learned clause changes.
 use Rattle.std.proofs.Common.{◌≡◌, ◌≢◌, ℕ, suc, zero, ◌<◌, ◌≤◌, true, false, ◌||◌, eqb, List, [], ◌∷◌, ◌++◌, length, get_or, take, inl, inr, refl, sym, ap, ◌∙◌, subst, arith, Option, Some, None}
-use Rattle.std.specs.Prelude.{IsSome, IsTrue}
+use Rattle.std.specs.Prelude.{IsSome}
 use Rattle.std.proofs.lemmas.Bool.{false≢true, cases_eq, or_left, or_right, eq-eqb, ne_eqb}
 use Rattle.std.proofs.lemmas.List.{length-take-le, take-take, take-append-le}
 use Rattle.std.proofs.Math.Bool.{or-false}
@@ -21,7 +21,7 @@ use Rattle.rooted_trails.specs.Rooted.{Rooted}
 use Rattle.rooted_trails.proofs.Falses.{not_all_false, false_by_neg}
 use Rattle.rooted_trails.proofs.Blocking.{root_true}
 use Rattle.rooted_trails.proofs.Reasons.{rooted_back, rooted_push, rooted_filled, live_filled, live_implied, unit_reason, root_follows}
-use Rattle.watch_lists.specs.Propagation.{Watching, follows}
+use Rattle.watch_lists.specs.Propagation.{Watching, Follows}
 use Rattle.conflict_analysis.specs.Counting.{Counted}
 use Rattle.conflict_analysis.specs.Learning.{lit_level, IsAsserting, Owes}
 use Rattle.conflict_analysis.proofs.Highests.{level_here}
@@ -99,7 +99,7 @@ first_push assumptions t x implied first i in' dec =
 
 -- what a search needs stays where its trail goes back
 pub ready_back : (assumptions : List ℕ) (core : Core) (t : Trace) (w : Watching) (tally : Counted) (level : ℕ) → IsReady assumptions core → IsBack core.trail t level
-    → w.attached ≡ core.watches.attached → w.declared ≡ core.watches.declared → IsTrue (follows w core.store t) → IsReady assumptions (record core { trail = t; watches = w; tally = tally })
+    → w.attached ≡ core.watches.attached → w.declared ≡ core.watches.declared → Follows w core.store t → IsReady assumptions (record core { trail = t; watches = w; tally = tally })
 ready_back assumptions core t w tally level ready back same size following =
     let dec = back.declared in
     record {
@@ -207,7 +207,7 @@ module _ {assumptions : List ℕ} {core : Core} {s : List (Option Stored)} {id :
           jumped_from core.trail t level p.0 last.steps (record { lit = lit; level = t.level; reason = Clause id }) taught.shape back p.1 (omega arith) (λ q. cc) is
 
       pub last_ready : (w : Watching) (tally : Counted) → last.declared ≡ core.trail.declared → ((k : ℕ) → has w.attached k ≡ (has core.watches.attached k || eqb id k)) → w.declared ≡ core.watches.declared
-          → IsTrue (follows w s last) → IsReady assumptions (record core { store = s; trail = last; watches = w; tally = tally })
+          → Follows w s last → IsReady assumptions (record core { store = s; trail = last; watches = w; tally = tally })
       last_ready w tally dec more size following = record {
         rooted = last_rooted;
         attached = attaches_filled core.store s id c taught.fills core.watches.attached w.attached taught.ready.attached more;

@@ -1,6 +1,6 @@
 -- Laws of turns that propagate, and of what a search keeps from turn to turn.
 use Rattle.std.proofs.Common.{◌≡◌, ℕ, suc, zero, ◌-◌, ◌^◌, ◌<◌, ◌≤◌, Bool, true, false, List, [], ◌∷◌, ◌++◌, length, inl, inr, refl, sym, ap, ◌∙◌, arith, Option, None, Result, Ok, Err, IfOk}
-use Rattle.std.specs.Prelude.{IsSome, IsTrue}
+use Rattle.std.specs.Prelude.{IsSome}
 use Rattle.std.proofs.lemmas.Bool.{cases_lt}
 use Rattle.std.proofs.lemmas.List.{take-append-le, get_or_append_left}
 use Rattle.sat_terms.specs.Truth.{Assignment, values}
@@ -13,7 +13,7 @@ use Rattle.trail_state.specs.Rank.{rank}
 use Rattle.trail_state.proofs.Levels.{decided, below_top}
 use Rattle.trail_state.proofs.Ranks.{rank-bound}
 use Rattle.rooted_trails.specs.Rooted.{RootedBy, RootedAt, Rooted}
-use Rattle.watch_lists.specs.Propagation.{Watching, follows, Grown}
+use Rattle.watch_lists.specs.Propagation.{Watching, Follows, Grown}
 use Rattle.watch_lists.proofs.Growing.{reason_kept}
 use Rattle.search_engine.specs.declared.state.Core.{Core}
 use Rattle.search_engine.specs.declared.state.Found.{Found}
@@ -86,10 +86,10 @@ pub record Propagates (old new : Core) : Type 0 where
   pub size : length new.model.items ≡ length old.model.items
   pub attached : new.watches.attached ≡ old.watches.attached
   pub declared : new.watches.declared ≡ old.watches.declared
-  pub following : IsTrue (follows new.watches old.store new.trail)
+  pub following : Follows new.watches old.store new.trail
   pub grown : Grown old.watches.attached old.store old.trail new.trail
 
-pub propagates : (old : Core) (w : Watching) (t : Trace) → w.attached ≡ old.watches.attached → w.declared ≡ old.watches.declared → IsTrue (follows w old.store t) → Grown old.watches.attached old.store old.trail t → Propagates old (record old { trail = t; watches = w })
+pub propagates : (old : Core) (w : Watching) (t : Trace) → w.attached ≡ old.watches.attached → w.declared ≡ old.watches.declared → Follows w old.store t → Grown old.watches.attached old.store old.trail t → Propagates old (record old { trail = t; watches = w })
 propagates old w t attached declared following grown = record {
   store = refl;
   tally = refl;

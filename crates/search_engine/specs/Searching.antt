@@ -1,5 +1,5 @@
 -- What a search needs, keeps and finds.
-use Rattle.std.specs.Prelude.{◌≡◌, ◌<◌, ◌≤◌, ℕ, Bool, true, List, length, Option, IsSome, is_some, IsTrue}
+use Rattle.std.specs.Prelude.{◌≡◌, ◌<◌, ◌≤◌, ℕ, Bool, true, List, length, Option, IsSome, is_some}
 use Rattle.sat_terms.specs.Literal.{has, pos_lit}
 use Rattle.sat_terms.specs.Truth.{Assignment, values}
 use Rattle.sat_terms.specs.Answer.{Within, IsModel, IsCore}
@@ -7,7 +7,7 @@ use Rattle.clause_store.specs.Stored.{Stored, slot, slot_lits, is_firm, FirmTrue
 use Rattle.trail_state.specs.declared.trail.Step.{Step}
 use Rattle.trail_state.specs.Trail.{true_on, value_on}
 use Rattle.rooted_trails.specs.Rooted.{Rooted}
-use Rattle.watch_lists.specs.Propagation.{follows}
+use Rattle.watch_lists.specs.Propagation.{Follows}
 use Rattle.conflict_analysis.specs.Counting.{Counted, IsDue}
 use Rattle.search_engine.specs.declared.state.Core.{Core}
 use Rattle.search_engine.specs.declared.state.Found.{Found}
@@ -27,7 +27,7 @@ pub record IsReady (assumptions : List ℕ) (c : Core) : Type 0 where
   -- each literal that was not decided has a reason among the clauses
   pub rooted : Rooted c.store c.trail.steps
   pub attached : AttachesLive c.watches.attached c.store
-  pub following : IsTrue (follows c.watches c.store c.trail)
+  pub following : Follows c.watches c.store c.trail
   -- the variables of clauses and assumptions are declared, and have their places in the model
   pub within : StoreWithin c.trail.declared c.store
   pub assumed : Within c.trail.declared assumptions

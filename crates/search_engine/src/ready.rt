@@ -6,7 +6,7 @@ ghost use Rattle.clause_store.specs.Stored.{slot};
 ghost use Rattle.clause_store.specs.Listing.{times};
 ghost use Rattle.trail_state.specs.Trail.{Trace, IsBack};
 ghost use Rattle.rooted_trails.specs.Rooted.{Rooted};
-ghost use Rattle.watch_lists.specs.Propagation.{follows};
+ghost use Rattle.watch_lists.specs.Propagation.{Follows};
 ghost use Rattle.search_engine.specs.Searching.{StoreWithin};
 
 use crate::state::Core;
@@ -25,7 +25,7 @@ fn attach_all(watches: &mut Watches, store: &Store, ids: &[ClauseId]) -> Result<
     requires within { StoreWithin watches.old.declared store.now }
     ensures attached { OnOk result ((id : ℕ) → has watches.new.attached id ≡ (has watches.old.attached id || has ids.now id)) }
     ensures declared { watches.new.declared ≡ watches.old.declared }
-    ensures following { (t : Trace) → IsTrue (follows watches.old store.now t) → IsTrue (follows watches.new store.now t) }
+    ensures following { (t : Trace) → Follows watches.old store.now t → Follows watches.new store.now t }
 {
     for id in ids {
         watches.attach(store, *id)?;
@@ -49,7 +49,7 @@ impl Core {
         ensures store { self.new.store ≡ self.old.store }
         ensures none { OnOk result (self.new.watches.attached ≡ []) }
         ensures watches { OnOk result (self.new.watches.declared ≡ vars) }
-        ensures following { OnOk result ((t : Trace) → IsTrue (follows self.new.watches self.new.store t)) }
+        ensures following { OnOk result ((t : Trace) → Follows self.new.watches self.new.store t) }
     {
         self.model = vec![in alloc; false; vars as usize]?;
         self.watches = Watches::new(alloc);
