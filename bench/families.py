@@ -27,7 +27,7 @@ PROGRAM = os.path.join(TOP, "crates", "icnf_runner", "out", "icnf_runner")
 USUAL = (
     ["pigeons 7", "pigeons 8"]
     + [f"random {n} {seed}" for n in (100, 120, 150) for seed in (1, 2, 3)]
-    + ["counter 3", "counter 4", "counter 5", "easy 5000", "wide 4194303"]
+    + ["counter 3", "counter 4", "counter 5", "easy 5000"]
 )
 OTHERS = ("minisat", "picosat", "cadical")
 
