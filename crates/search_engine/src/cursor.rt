@@ -1,4 +1,5 @@
 //! How far a search has looked.
+
 /// How far a search has looked since it last went back: the assumptions before this place are true, so are the firm clauses
 /// before this place of their list, and the variables below this one have values.
 #[derive(Clone, Copy)]
