@@ -1,5 +1,5 @@
 -- What keeps the lists following a trail.
-use Rattle.std.proofs.Common.{◌≡◌, ℕ, zero, ◌+◌, ◌<◌, ◌≤◌, Bool, true, false, ◌||◌, not, ◌&&◌, eqb, List, [], ◌∷◌, ◌++◌, length, take, inl, inr, refl, sym, ap, ◌∙◌, subst, arith, length-append, Option, Some, None}
+use Rattle.std.proofs.Common.{◌≡◌, ℕ, ◌+◌, ◌<◌, ◌≤◌, Bool, true, ◌||◌, eqb, List, ◌++◌, length, take, inl, inr, refl, sym, ap, ◌∙◌, arith, length-append, Option, Some, None}
 use Rattle.std.proofs.lemmas.Bool.{or_cases, or_left, eqb-true}
 use Rattle.std.proofs.lemmas.List.{take_all, length-map}
 use Rattle.sat_terms.specs.Literal.{has, neg}
@@ -7,9 +7,8 @@ use Rattle.sat_terms.specs.Normal.{IsNormal}
 use Rattle.clause_store.specs.declared.stored.Keep.TheVariants.{Firm, Redundant}
 use Rattle.clause_store.specs.Stored.{Stored, slot, slot_lits, slot_keep}
 use Rattle.trail_state.specs.declared.trail.Step.{Step}
-use Rattle.trail_state.specs.Trail.{Trace, step, lits_of, IsTrail}
-use Rattle.trail_state.specs.Clauses.{IsQuiet}
-use Rattle.watch_lists.specs.Propagation.{marked, ids_of, Rests, IsListable, IsFollowed, Follows, AllRest, AllQuiet}
+use Rattle.trail_state.specs.Trail.{step, lits_of, IsTrail}
+use Rattle.watch_lists.specs.Propagation.{marked, ids_of, IsListable, IsFollowed, AllRest, AllQuiet}
 use Rattle.watch_lists.proofs.Marking.{has-ids_of, has-append, has_both}
 use Rattle.watch_lists.proofs.Resting.{pair_normal, rests_longer, rests_on, quiet_resting}
 

@@ -1,6 +1,6 @@
 -- A trail that grows by implied literals.
 use Rattle.std.proofs.Common.{◌≡◌, ◌≢◌, ℕ, ◌+◌, ◌<◌, ◌≤◌, Bool, true, false, not, eqb, ◌||◌, ◌&&◌, List, [], ◌∷◌, ◌++◌, length, get_or, take, length-append, append_assoc, inl, inr, refl, sym, ◌∙◌, arith, Option, Some, None}
-use Rattle.std.specs.Prelude.{IfSome, IfNone, is_some}
+use Rattle.std.specs.Prelude.{IfNone, is_some}
 use Rattle.std.proofs.lemmas.Bool.{cases_lt, or_cases, or_left, or_right, eq-eqb, eqb-true, false≢true, false_from_ne_true}
 use Rattle.std.proofs.lemmas.List.{length_push, take-append-le, take_at, append-nil, get_or_append_left}
 use Rattle.sat_terms.specs.Literal.{has, var_of}
@@ -205,6 +205,9 @@ rests_skip ids s old now i id P in' is before none k m p =
 -- clauses that are attached stay ready where one is added and attached, and where one is detached
 pub ready_fresh : (ids : List ℕ) (s : List (Option Stored)) (n id : ℕ) → AllReady ids s n → slot s id ≡ None → has ids id ≡ false
 ready_fresh ids s n id ready free = false_from_ne_true (has ids id) (λ h. absurd (false≢true (rw free at (ready id h).0)))
+
+pub slots_kept : (ids : List ℕ) (s s' : List (Option Stored)) (n id : ℕ) (c : Stored) → AllReady ids s n → Fills s s' id c → (k : ℕ) → has ids k ≡ true → slot s' k ≡ slot s k
+slots_kept ids s s' n id c ready fills k h = fills.others k (λ e. absurd (false≢true (sym (ready_fresh ids s n id ready fills.free) ∙ rw e at h)))
 
 pub ready_attached : (ids ids' : List ℕ) (s s' : List (Option Stored)) (n id : ℕ) (c : Stored) → AllReady ids s n → Fills s s' id c → Within n c.lits → ((k : ℕ) → has ids' k ≡ (has ids k || eqb id k)) → AllReady ids' s' n
 ready_attached ids ids' s s' n id c ready fills within members k h =

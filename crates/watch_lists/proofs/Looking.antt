@@ -1,17 +1,15 @@
 -- What the look at a clause finds.
-use Rattle.std.proofs.Common.{◌≡◌, ◌≢◌, ℕ, ◌<◌, ◌≤◌, eqb, arith, Bool, true, false, cond, List, length, get_or, take, inl, inr, refl, sym, ap, ◌∙◌, Option, Some, None}
+use Rattle.std.proofs.Common.{◌≡◌, ◌≢◌, ℕ, ◌<◌, ◌≤◌, eqb, arith, Bool, true, false, cond, List, length, get_or, take, inl, inr, refl, Option, Some, None}
 use Rattle.std.proofs.lemmas.Bool.{false≢true, false_from_ne_true, eq-eqb}
 use Rattle.std.proofs.lemmas.List.{take_all}
 use Rattle.std.proofs.lemmas.List.Folds.{list_any_at}
-use Rattle.sat_terms.specs.Literal.{neg, var_of, has}
+use Rattle.sat_terms.specs.Literal.{neg, has}
 use Rattle.clause_store.specs.Stored.{Stored, slot, slot_lits, is_firm}
 use Rattle.clause_store.specs.Listing.{times, HasEachOnce, holds_at}
 use Rattle.clause_store.proofs.Counts.{times_place}
-use Rattle.sat_terms.proofs.Literals.{var_of-neg, neg-other}
 use Rattle.trail_state.specs.declared.trail.Step.{Step}
-use Rattle.trail_state.specs.Trail.{step, true_on, value_on, IsTrail}
-use Rattle.trail_state.specs.Clauses.{FalseOn, IsUnit, IsQuiet}
-use Rattle.trail_state.proofs.Places.{place_of_true}
+use Rattle.trail_state.specs.Trail.{true_on, value_on}
+use Rattle.trail_state.specs.Clauses.{FalseOn, IsUnit}
 use Rattle.watch_lists.specs.Propagation.{Rests}
 use Rattle.watch_lists.proofs.Members.{has_at, has_taken}
 

@@ -1,18 +1,16 @@
 -- Clauses that rest as a trail grows.
-use Rattle.std.proofs.Common.{◌≡◌, ◌≢◌, ◌⊎◌, ℕ, zero, suc, ◌+◌, ◌<◌, ◌≤◌, Bool, true, false, ◌||◌, eqb, List, [], ◌∷◌, ◌++◌, length, get_or, take, drop, inl, inr, refl, sym, ap, ◌∙◌, arith, Option, Some, None}
+use Rattle.std.proofs.Common.{◌≡◌, ◌≢◌, ℕ, zero, suc, ◌+◌, ◌<◌, ◌≤◌, true, false, eqb, List, [], ◌∷◌, ◌++◌, length, get_or, take, drop, inl, inr, refl, sym, ap, ◌∙◌, arith, Some, None}
 use Rattle.std.proofs.lemmas.Bool.{false≢true, false_from_ne_true, cases_eq, or_left, or_right, eq-eqb, ne_eqb}
 use Rattle.std.proofs.lemmas.List.{take-append-le, take-append-drop}
 use Rattle.std.proofs.lemmas.List.Folds.{list_any-append, list_any_more}
-use Rattle.std.specs.Prelude.{All}
 use Rattle.sat_terms.specs.Literal.{has, neg, var_of}
 use Rattle.sat_terms.specs.Normal.{IsNormal}
 use Rattle.sat_terms.proofs.Literals.{neg-neg, var_of-neg, neg-other}
-use Rattle.clause_store.specs.Stored.{Stored, slot, slot_lits, is_firm}
 use Rattle.trail_state.specs.declared.trail.Step.{Step}
 use Rattle.trail_state.specs.Trail.{step, no_step, true_on, value_on, IsTrail}
-use Rattle.trail_state.specs.Clauses.{FalseOn, IsUnit, IsQuiet}
+use Rattle.trail_state.specs.Clauses.{IsUnit, IsQuiet}
 use Rattle.trail_state.proofs.Places.{place_of_true}
-use Rattle.watch_lists.specs.Propagation.{marked, IsMet, IsOpen, Rests, IsListable, IsFollowed, AllRest}
+use Rattle.watch_lists.specs.Propagation.{IsMet, IsOpen, Rests}
 use Rattle.watch_lists.proofs.Members.{has_at}
 
 -- what is true stays true on a longer trail, and what is not true on a trail is not true on its front

@@ -1,8 +1,9 @@
 //! The happy path of each call.
-ghost use Rattle.std.specs.Prelude.{◌≡◌, ◌≤◌, ℕ, [], true, None, IsTrue, IfOk, OnOk};
+ghost use Rattle.std.specs.Prelude.{◌≡◌, ◌≤◌, ℕ, List, [], true, Option, None, IsTrue, IfOk, OnOk};
 ghost use Rattle.sat_terms.specs.Literal.{var_of, has};
-ghost use Rattle.trail_state.specs.Trail.{value_on};
-ghost use Rattle.watch_lists.specs.Propagation.{AllReady};
+ghost use Rattle.clause_store.specs.Stored.{Stored};
+ghost use Rattle.trail_state.specs.Trail.{Trace, value_on};
+ghost use Rattle.watch_lists.specs.Propagation.{Follows, AllReady};
 
 use crate::watches::Watches;
 use clause_store::store::Store;
@@ -22,20 +23,23 @@ fn attach_pair(
 ) -> Result<ClauseId, Fail>
     requires ready { AllReady watches.old.attached store.old 3 }
     requires declared { 3 ≤ watches.old.declared }
+    requires following { (t : Trace) → Follows watches.old store.old t }
     ensures ready { OnOk result (AllReady watches.new.attached store.new 3) }
     ensures declared { watches.new.declared ≡ watches.old.declared }
     ensures attached { IfOk result (λ id. has watches.new.attached id ≡ true) }
     ensures kept { OnOk result ((k : ℕ) → has watches.old.attached k ≡ true → has watches.new.attached k ≡ true) }
+    ensures following { OnOk result ((t : Trace) → Follows watches.new store.new t) }
 {
     if low.var().index() >= high.var().index() || high.var().index() > 3 {
         return Err("the variables do not rise up to 3")?;
     }
     let id = store.add(&[low, high], Keep::Firm, 0)?;
+    watches.goes_on_following();
     watches.attach(store, id)?;
     Ok(id)
 }
 
-// Decides a literal, where its variable is declared and has no value, and propagates.
+// Decides a literal, whose variable must be declared and have no value, and propagates.
 fn propagate_from(
     watches: &mut Watches,
     store: &Store,
@@ -44,13 +48,17 @@ fn propagate_from(
 ) -> Result<Option<ClauseId>, Fail>
     requires ready { AllReady watches.old.attached store.now 3 }
     requires declared { trail.old.declared ≡ 3 }
+    requires following { Follows watches.old store.now trail.old }
     ensures ready { AllReady watches.new.attached store.now 3 }
     ensures declared { trail.new.declared ≡ 3 }
     ensures attached { watches.new.attached ≡ watches.old.attached }
+    ensures following { Follows watches.new store.now trail.new }
 {
-    if lit.var().index() <= trail.declared() && trail.value(lit).is_none() {
-        trail.decide(lit);
+    if lit.var().index() > trail.declared() || trail.value(lit).is_some() {
+        return Err("the literal can't be decided")?;
     }
+    trail.decide(lit);
+    watches.goes_on_following();
     Ok(watches.propagate(store, trail)?)
 }
 
@@ -59,7 +67,9 @@ fn declare_three(watches: &mut Watches, store: &Store, trail: &mut Trail) -> Res
     requires attached { watches.old.attached ≡ [] }
     requires watches { watches.old.declared ≡ 0 }
     requires trail { trail.old.declared ≡ 0 }
+    requires following { (s : List (Option Stored)) (t : Trace) → Follows watches.old s t }
     ensures ready { AllReady watches.new.attached store.now 3 }
+    ensures following { OnOk result ((t : Trace) → Follows watches.new store.now t) }
     ensures watches { OnOk result (3 ≤ watches.new.declared) }
     ensures trail { OnOk result (trail.new.declared ≡ 3) }
 {
@@ -75,8 +85,10 @@ fn detach_at_root(watches: &mut Watches, store: &Store, trail: &mut Trail, id: C
     requires ready { AllReady watches.old.attached store.now 3 }
     requires attached { has watches.old.attached id ≡ true }
     requires declared { trail.old.declared ≡ 3 }
+    requires following { Follows watches.old store.now trail.old }
     ensures ready { AllReady watches.new.attached store.now 3 }
     ensures declared { trail.new.declared ≡ 3 }
+    ensures following { Follows watches.new store.now trail.new }
 {
     trail.back_to(0);
     watches.cut(trail);
@@ -95,6 +107,7 @@ fn implies_in_turn(
     requires attached { watches.old.attached ≡ [] }
     requires watches { watches.old.declared ≡ 0 }
     requires trail { trail.old.declared ≡ 0 }
+    requires following { (s : List (Option Stored)) (t : Trace) → Follows watches.old s t }
 {
     declare_three(watches, store, trail)?;
     let first = attach_pair(watches, store, one, two)?;
@@ -116,6 +129,7 @@ fn finds_a_false_clause(
     requires attached { watches.old.attached ≡ [] }
     requires watches { watches.old.declared ≡ 0 }
     requires trail { trail.old.declared ≡ 0 }
+    requires following { (s : List (Option Stored)) (t : Trace) → Follows watches.old s t }
 {
     declare_three(watches, store, trail)?;
     let first = attach_pair(watches, store, one, two)?;

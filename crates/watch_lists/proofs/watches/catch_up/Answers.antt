@@ -1,4 +1,4 @@
-use Rattle.std.proofs.Common.{◌<◌, ◌∙◌, length, ap, refl, sym}
+use Rattle.std.proofs.Common.{◌∙◌, ap, refl, sym}
 use Rattle.sat_terms.specs.Literal.{neg}
 use Rattle.trail_state.proofs.Places.{lit_read}
 use Rattle.watch_lists.proofs.Growing.{grown_more, from_none}

@@ -1,5 +1,5 @@
 use Rattle.watch_lists.proofs.Members.{has_at}
-use Rattle.watch_lists.proofs.Growing.{grown_none, grown_turn, quiet_turn}
+use Rattle.watch_lists.proofs.Growing.{grown_turn, quiet_turn}
 use Rattle.watch_lists.proofs.watches.round.Goals as goal
 
 pub visit-is_false-requires : goal.visit-is_false-requires
