@@ -1,6 +1,6 @@
 -- What keeps the lists following a trail.
-use Rattle.std.proofs.Common.{◌≡◌, ℕ, ◌+◌, ◌<◌, ◌≤◌, Bool, true, ◌||◌, eqb, List, ◌++◌, length, take, inl, inr, refl, sym, ap, ◌∙◌, arith, length-append, Option, Some, None}
-use Rattle.std.proofs.lemmas.Bool.{or_cases, or_left, eqb-true}
+use Rattle.std.proofs.Common.{◌≡◌, ℕ, ◌+◌, ◌<◌, ◌≤◌, Bool, true, List, ◌++◌, length, take, inl, inr, refl, sym, ap, ◌∙◌, arith, length-append, Option, Some, None}
+use Rattle.std.proofs.lemmas.Bool.{or_cases, or_left}
 use Rattle.std.proofs.lemmas.List.{take_all, length-map}
 use Rattle.sat_terms.specs.Literal.{has, neg}
 use Rattle.sat_terms.specs.Normal.{IsNormal}
@@ -16,36 +16,6 @@ use Rattle.watch_lists.proofs.Resting.{pair_normal, rests_longer, rests_on, quie
 pub listable_firm : (x : Option Stored) (c : List ℕ) → slot_keep x ≡ Firm → c ≡ slot_lits x → IsNormal c → 2 ≤ length c → IsListable x
 listable_firm None c firm lits normal two = absurd (let e : Redundant ≡ Firm = firm in cc)
 listable_firm (Some y) c firm lits normal two = record { firm = rw firm refl; pair = rw lits at (pair_normal c normal two) }
-
--- the clauses of fewer marks follow any trail with the head at its start
-pub follows_anew : (old new : List Bool) (head : ℕ) (s : List (Option Stored)) (t t' : List Step) → IsFollowed old head s t → ((k : ℕ) → marked new k ≡ true → marked old k ≡ true) → IsFollowed new 0 s t'
-follows_anew old new head s t t' h less = record {
-  within = omega arith;
-  listable = λ k m. h.listable k (less k m);
-  rests = λ k m. inr (h.listable k (less k m)).pair;
-}
-
--- one clause more that can be listed
-pub follows_added : (old new : List Bool) (head id : ℕ) (s : List (Option Stored)) (t t' : List Step) → IsFollowed old head s t → IsListable (slot s id) → ((k : ℕ) → marked new k ≡ (marked old k || eqb id k)) → IsFollowed new 0 s t'
-follows_added old new head id s t t' h here more =
-    let listable : (k : ℕ) → marked new k ≡ true → IsListable (slot s k) = λ k m.
-    elim (or_cases (marked old k) (eqb id k) (sym (more k) ∙ m)) [
-      | inl a ↦ h.listable k a
-      | inr e ↦ let same : id ≡ k = eqb-true id k e in rw (← same) here
-    ] in
-    record {
-      within = omega arith;
-      listable = listable;
-      rests = λ k m. inr (listable k m).pair;
-    }
-
--- the same or fewer marks
-pub follows_less : (old new : List Bool) (head : ℕ) (s : List (Option Stored)) (t : List Step) → IsFollowed old head s t → ((k : ℕ) → marked new k ≡ true → marked old k ≡ true) → IsFollowed new head s t
-follows_less old new head s t h less = record {
-  within = h.within;
-  listable = λ k m. h.listable k (less k m);
-  rests = λ k m. h.rests k (less k m);
-}
 
 -- a trail that grows
 pub follows_longer : (marks : List Bool) (head : ℕ) (s : List (Option Stored)) (t more t' : List Step) → IsFollowed marks head s t → t' ≡ t ++ more → IsFollowed marks head s t'

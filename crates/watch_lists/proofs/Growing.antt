@@ -1,10 +1,9 @@
 -- A trail that grows by implied literals.
-use Rattle.std.proofs.Common.{◌≡◌, ◌≢◌, ℕ, ◌+◌, ◌<◌, ◌≤◌, Bool, true, false, not, eqb, ◌||◌, ◌&&◌, List, [], ◌∷◌, ◌++◌, length, get_or, take, length-append, append_assoc, inl, inr, refl, sym, ◌∙◌, arith, Option, Some, None}
+use Rattle.std.proofs.Common.{◌≡◌, ℕ, ◌+◌, ◌<◌, ◌≤◌, true, false, eqb, List, [], ◌∷◌, ◌++◌, length, get_or, take, length-append, append_assoc, inl, inr, refl, sym, ◌∙◌, arith, Option, Some, None}
 use Rattle.std.specs.Prelude.{IfNone, is_some}
 use Rattle.std.proofs.lemmas.Bool.{cases_lt, or_cases, or_left, or_right, eq-eqb, eqb-true, false≢true, false_from_ne_true}
-use Rattle.std.proofs.lemmas.List.{length_push, take-append-le, take_at, append-nil, get_or_append_left}
+use Rattle.std.proofs.lemmas.List.{take-append-le, take_at, append-nil, get_or_append_left}
 use Rattle.sat_terms.specs.Literal.{has, var_of}
-use Rattle.sat_terms.specs.Answer.{Within}
 use Rattle.clause_store.specs.Stored.{Stored, slot, slot_lits, Fills}
 use Rattle.trail_state.specs.declared.trail.Step.{Step}
 use Rattle.trail_state.specs.declared.reason.Reason.TheVariants.{Clause}
@@ -93,14 +92,6 @@ grown_more ids s a b c g h = record {
 
 grown_longer : (ids : List ℕ) (s : List (Option Stored)) (a b : Trace) → Grown ids s a b → length a.steps ≤ length b.steps
 grown_longer ids s a b g = rw (g.steps, length-append) (omega arith)
-
--- a trail that was pushed to is not as long as before
-pub pushed_longer : (ids : List ℕ) (s : List (Option Stored)) (old now : Trace) (t : List Step) (x : Step) → Grown ids s old now → t ≡ now.steps ++ x ∷ [] → length t ≡ length old.steps → ⊥
-pushed_longer ids s old now t x g e same =
-    let a = grown_longer ids s old now g in
-    let b = length_push now.steps x in
-    let same' : length (now.steps ++ x ∷ []) ≡ length old.steps = rw e at same in
-    absurd (omega arith)
 
 -- one clause more is quiet
 pub quiet_more : (ids : List ℕ) (s : List (Option Stored)) (t : List Step) (i id : ℕ) → i < length ids → id ≡ get_or ids i id → AllQuiet (take i ids) s t → IsQuiet t (slot_lits (slot s id)) → AllQuiet (take (i + 1) ids) s t
@@ -202,27 +193,12 @@ rests_skip ids s old now i id P in' is before none k m p =
       | inr e ↦ let same : id ≡ k = e in absurd (none (rw same p))
     ]
 
--- clauses that are attached stay ready where one is added and attached, and where one is detached
+-- a clause that is added is not attached, and the attached ones stay
 pub ready_fresh : (ids : List ℕ) (s : List (Option Stored)) (n id : ℕ) → AllReady ids s n → slot s id ≡ None → has ids id ≡ false
 ready_fresh ids s n id ready free = false_from_ne_true (has ids id) (λ h. absurd (false≢true (rw free at (ready id h).0)))
 
 pub slots_kept : (ids : List ℕ) (s s' : List (Option Stored)) (n id : ℕ) (c : Stored) → AllReady ids s n → Fills s s' id c → (k : ℕ) → has ids k ≡ true → slot s' k ≡ slot s k
 slots_kept ids s s' n id c ready fills k h = fills.others k (λ e. absurd (false≢true (sym (ready_fresh ids s n id ready fills.free) ∙ rw e at h)))
-
-pub ready_attached : (ids ids' : List ℕ) (s s' : List (Option Stored)) (n id : ℕ) (c : Stored) → AllReady ids s n → Fills s s' id c → Within n c.lits → ((k : ℕ) → has ids' k ≡ (has ids k || eqb id k)) → AllReady ids' s' n
-ready_attached ids ids' s s' n id c ready fills within members k h =
-    elim (or_cases (has ids k) (eqb id k) (sym (members k) ∙ h)) [
-      | inl a ↦
-          let other : k ≢ id = λ e. absurd (false≢true (sym (ready_fresh ids s n id ready fills.free) ∙ rw e at a)) in
-          rw (fills.others k other) (ready k a)
-      | inr e ↦ let same : id ≡ k = eqb-true id k e in rw (← same, fills.filled) (refl, within)
-    ]
-
-pub ready_detached : (ids ids' : List ℕ) (s : List (Option Stored)) (n id : ℕ) → AllReady ids s n → ((k : ℕ) → has ids' k ≡ (has ids k && not (eqb k id))) → AllReady ids' s n
-ready_detached ids ids' s n id ready members k h = ready k (and_first (has ids k) (not (eqb k id)) (sym (members k) ∙ h)) where
-  and_first : (a b : Bool) → (a && b) ≡ true → a ≡ true
-  and_first true b e = refl
-  and_first false b e = e
 
 -- what follows where nothing was found
 pub if_none_more : {A : Type 0} (r : Option A) (P Q : Type 0) → (P → Q) → IfNone r P → IfNone r Q

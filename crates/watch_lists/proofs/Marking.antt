@@ -1,7 +1,6 @@
 -- Laws of sets of ids that are kept as marks.
-use Rattle.std.proofs.Common.{◌≡◌, ℕ, zero, suc, ◌+◌, ◌<◌, ◌≤◌, Bool, true, false, ◌||◌, not, ◌&&◌, eqb, List, [], ◌∷◌, ◌++◌, length, set, inl, inr, refl, sym, ap, ◌∙◌, arith}
-use Rattle.std.proofs.lemmas.Bool.{cases_eq, eq-eqb, ne_eqb}
-use Rattle.std.proofs.lemmas.List.{get_or-set_same, get_or-set_other, get_or_past}
+use Rattle.std.proofs.Common.{◌≡◌, ℕ, zero, suc, ◌+◌, ◌<◌, Bool, true, false, ◌||◌, not, ◌&&◌, eqb, List, [], ◌∷◌, ◌++◌, refl, ap, ◌∙◌, arith}
+use Rattle.std.proofs.lemmas.Bool.{eq-eqb, ne_eqb}
 use Rattle.std.proofs.lemmas.List.Folds.{list_any-append}
 use Rattle.sat_terms.specs.Literal.{has}
 use Rattle.watch_lists.specs.Propagation.{marked, ids_from, ids_of}
@@ -38,44 +37,6 @@ marked_longer [] zero = refl
 marked_longer [] (suc k) = refl
 marked_longer (b ∷ marks) zero = refl
 marked_longer (b ∷ marks) (suc k) = marked_longer marks k
-
--- one mark more, and one less
-or_true : (b : Bool) → (b || true) ≡ true
-or_true true = refl
-or_true false = refl
-
-or_false : (b : Bool) → (b || false) ≡ b
-or_false true = refl
-or_false false = refl
-
-and_true : (b : Bool) → (b && true) ≡ b
-and_true true = refl
-and_true false = refl
-
-and_false : (b : Bool) → (b && false) ≡ false
-and_false true = refl
-and_false false = refl
-
-pub marked_set : (marks : List Bool) (at k : ℕ) → at < length marks → marked (set marks at true) k ≡ (marked marks k || eqb at k)
-marked_set marks at k in' =
-    elim (cases_eq k at) [
-      | inl e ↦ rw (e, eq-eqb at at refl) (get_or-set_same marks at true false in' ∙ sym (or_true (marked marks at)))
-      | inr n ↦ rw (ne_eqb at k (λ q. n (sym q))) (get_or-set_other marks at k true false n ∙ sym (or_false (marked marks k)))
-    ]
-
-pub marked_unset : (marks : List Bool) (at k : ℕ) → at < length marks → marked (set marks at false) k ≡ (marked marks k && not (eqb k at))
-marked_unset marks at k in' =
-    elim (cases_eq k at) [
-      | inl e ↦ rw (e, eq-eqb at at refl) (get_or-set_same marks at false false in' ∙ sym (and_false (marked marks at)))
-      | inr n ↦ rw (ne_eqb k at n) (get_or-set_other marks at k false false n ∙ sym (and_true (marked marks k)))
-    ]
-
-pub unmarked_past : (marks : List Bool) (at k : ℕ) → length marks ≤ at → marked marks k ≡ (marked marks k && not (eqb k at))
-unmarked_past marks at k out =
-    elim (cases_eq k at) [
-      | inl e ↦ rw (e, eq-eqb at at refl) (get_or_past marks at false out ∙ sym (and_false (marked marks at)))
-      | inr n ↦ rw (ne_eqb k at n) (sym (and_true (marked marks k)))
-    ]
 
 -- members of two lists
 pub has-append : (a b : List ℕ) (k : ℕ) → has (a ++ b) k ≡ (has a k || has b k)

@@ -44,9 +44,6 @@ open_front t more c h = record {
 pub open_take : (k : ℕ) (t : List Step) (c : List ℕ) → IsOpen t c → IsOpen (take k t) c
 open_take k t c h = open_front (take k t) (drop k t) c (rw (take-append-drop k t) h)
 
-pub open_none : (t : List Step) (c : List ℕ) → IsOpen t c → IsOpen [] c
-open_none t c h = open_front [] t c h
-
 -- a literal and its negation are not both true
 not_both : (t : List Step) (top l : ℕ) → IsTrail t top → true_on t l ≡ true → true_on t (neg l) ≡ true → ⊥
 not_both t top l shape h m =

@@ -47,7 +47,7 @@ pub record IsOpen (t : List Step) (c : List ℕ) : Type 0 where
   pub one_open : true_on t (neg one) ≡ false
   pub other_open : true_on t (neg other) ≡ false
 
--- A literal of the clause is true, or two different ones were not false at an earlier time.
+-- a literal of the clause is true now, or two different ones were not false before
 abbrev pub Rests : List Step → List Step → List ℕ → Type 0
 Rests before now c = IsMet now c ⊎ IsOpen before c
 
@@ -56,14 +56,14 @@ pub record IsListable (x : Option Stored) : Type 0 where
   pub firm : is_firm x ≡ true
   pub pair : IsOpen [] (slot_lits x)
 
--- The marked clauses follow a trail up to its place `head`. Whatever the literals from there on made false, the clause has a true
--- literal, or it had two literals that were not false before them.
+-- The marked clauses follow a trail whose literals from the place `head` on have not been looked at: each of the clauses has a true
+-- literal, or two different ones that no literal before that place made false.
 pub record IsFollowed (marks : List Bool) (head : ℕ) (s : List (Option Stored)) (t : List Step) : Type 0 where
   pub within : head ≤ length t
   pub listable : (id : ℕ) → marked marks id ≡ true → IsListable (slot s id)
   pub rests : (id : ℕ) → marked marks id ≡ true → Rests (take head t) t (slot_lits (slot s id))
 
--- each marked clause that is firm and holds a literal rests
+-- each marked clause that is firm and holds this literal rests
 abbrev pub AllRest : List Bool → ℕ → List (Option Stored) → List Step → List Step → Type 0
 AllRest marks lit s before now = (id : ℕ) → marked marks id ≡ true → is_firm (slot s id) ≡ true → has (slot_lits (slot s id)) lit ≡ true → Rests before now (slot_lits (slot s id))
 
@@ -79,10 +79,11 @@ pub record CanFollow (w : Watching) (now : Trace) : Type 0 where
   pub followed : Follows w store before
   pub back : IsBack before now level
 
--- the id names a live clause whose variables are among the first n, and each of the ids does
+-- the id names a live clause whose variables are among the first n
 abbrev pub IsReadyAt : ℕ → List (Option Stored) → ℕ → Type 0
 IsReadyAt id s n = IsSome (slot s id) × Within n (slot_lits (slot s id))
 
+-- each of the ids names one
 abbrev pub AllReady : List ℕ → List (Option Stored) → ℕ → Type 0
 AllReady ids s n = (id : ℕ) → has ids id ≡ true → IsReadyAt id s n
 

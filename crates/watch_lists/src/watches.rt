@@ -189,7 +189,8 @@ impl Watches {
         self.scanned.retain(|other| *other != id);
     }
 
-    /// Tells the lists that the trail went back: they follow it again if they followed it before.
+    /// Tells the lists that the trail went back: they follow it again if they followed it before. The next `propagate` looks at each
+    /// literal of the trail again.
     pub fn cut(&mut self, trail: &Trail)
         requires { CanFollow self.old trail.now }
         ensures attached { self.new.attached ≡ self.old.attached }
@@ -212,6 +213,9 @@ impl Watches {
     /// Assigns what the attached clauses imply, until nothing more follows or one of them is false, and answers that one. Each
     /// attached clause must be live, as it was when it was attached, with its variables declared on the trail, and the lists
     /// must follow the trail. Each literal that is appended has its clause as its reason. It takes no memory.
+    ///
+    /// A firm clause of two or more literals is looked at only when one of its literals became false, by the store's lists of the
+    /// clauses of a literal; the other clauses are looked at in rounds.
     pub fn propagate(
         &mut self,
         store: &Store,
