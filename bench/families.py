@@ -1,10 +1,9 @@
 #!/usr/bin/env python3
-"""Times the program on families of inputs that are hard for their size, one-shot and incremental, beside any other solver that
-this machine has. It makes its own data, prints a table, and asserts nothing but that all give the same answers.
+"""Times the program on families of inputs, one-shot and incremental, beside any other solver that this machine has. It makes its own data, prints a table, and asserts nothing but that all give the same answers.
 
     pigeons H     H + 1 pigeons in H holes: no model
     random N S    3-SAT over N variables at the ratio 4.2, by the seed S
-    counter B     bounded model checking of a counter of B bits that may pause: one query a step, up to the step that reaches the end
+    counter B     bounded model checking of a counter of B bits that may pause: one query a step, to the step that reaches the end
     easy N        2 N clauses of three literals over N variables, which have many models
     wide N        the same over 500 variables, beside a clause of the variable N alone
 
@@ -27,7 +26,7 @@ PROGRAM = os.path.join(TOP, "crates", "icnf_runner", "out", "icnf_runner")
 USUAL = (
     ["pigeons 7", "pigeons 8"]
     + [f"random {n} {seed}" for n in (100, 120, 150) for seed in (1, 2, 3)]
-    + ["counter 3", "counter 4", "counter 5", "easy 5000"]
+    + ["counter 3", "counter 4", "counter 5", "easy 5000", "wide 100000"]
 )
 OTHERS = ("minisat", "picosat", "cadical")
 
@@ -128,7 +127,7 @@ def easy(count):
 def wide(last):
     script = easy(500)
     script.statements.insert(0, [last])
-    script.vars = last
+    script.vars = max(script.vars, last)
     return script
 
 

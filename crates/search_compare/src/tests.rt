@@ -92,7 +92,7 @@ fn solve(solver: &mut Solver, assumed: &[Lit], budget: Budget) -> Result<Outcome
     Ok(solver.solve(budget, 1000)?)
 }
 
-// Whether the solver's last answer is that of plain backtracking, with a model or a core that fits.
+// Whether the solver's last answer is that of plain backtracking, with a model or a core that fits. Unknown fits always.
 fn fits(
     alloc: Global,
     solver: &Solver,

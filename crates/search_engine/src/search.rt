@@ -44,9 +44,9 @@ fn take_turn(
 ///
 /// The core must be ready for the assumptions, and its trail at the root. `Sat` says that the core's model makes the firm
 /// clauses and the assumptions true; its values are those of the trail, where all declared variables have one. `Unsat` has a
-/// core: some of the assumptions, none twice, that no assignment of the stored clauses makes true. `Spent` comes only where as
-/// many conflicts were counted as the budget says, below 2^62, and a clause was false above the root again. Whatever is
-/// answered, `Memory` too, the firm clauses stay, what was learned follows from the clauses, and the trail has its reasons.
+/// core: some of the assumptions, none twice, that no assignment which makes the stored clauses true makes true. `Spent` comes
+/// only where as many conflicts were counted as the budget says, below 2^62. Whatever is answered, `Memory` too, the firm
+/// clauses stay, what was learned follows from the clauses, and the trail has its reasons.
 pub fn search(
     alloc: Global,
     core: &mut Core,

@@ -25,7 +25,7 @@ pub const NO_BUDGET: Budget = Budget {
 /// What was used up when a search stopped.
 #[derive(Clone, Copy, Debug, PartialEq, Eq)]
 pub enum Spent {
-    /// So many conflicts came, which is the budget, and then one more false clause.
+    /// So many conflicts were counted, which is the budget.
     Conflicts(u64),
 }
 

@@ -29,7 +29,8 @@ pub(crate) enum Answer {
     Spent(Spent),
 }
 
-// The clauses that a solver stores, and the state of its search. Contracts see the stored clauses and the greatest declared variable.
+// The clauses that a solver stores, and the state of its search. Contracts see the stored clauses and the greatest declared
+// variable.
 #[derive(Drop)]
 pub(crate) struct Engine {
     core: Core,

@@ -23,8 +23,8 @@ ids_from n (b ∷ marks) = if b then n ∷ ids_from (suc n) marks else ids_from 
 unfoldable pub ids_of : List Bool → List ℕ
 ids_of marks = ids_from 0 marks
 
--- What contracts see of the lists: the ids of the attached clauses, and how many variables are declared. The attached clauses
--- that are marked are looked at by their literals, up to the head: the first place of the trail whose literal has not been looked at.
+-- What contracts see of the lists: the ids of the attached clauses, how many variables are declared, the marks of the clauses that
+-- are looked at by their literals, and the head: the first place of the trail whose literal has not been looked at.
 pub record Watching : Type 0 where
   pub attached : List ℕ
   pub declared : ℕ

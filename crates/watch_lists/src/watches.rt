@@ -1,5 +1,5 @@
 //! Lists of the clauses that propagation looks at.
-ghost use Rattle.std.specs.Prelude.{◌≡◌, ◌≢◌, ◌<◌, ◌≤◌, ◌||◌, ◌&&◌, ◌==◌, ◌++◌, ◌∷◌, ℕ, List, [], length, true, false, not, max, Option, IsSome, IsOk, OnOk, OnErr, IfOk, IfSome, IfNone};
+ghost use Rattle.std.specs.Prelude.{◌≡◌, ◌<◌, ◌||◌, ◌&&◌, ◌==◌, ◌++◌, ◌∷◌, ℕ, List, [], length, true, false, not, max, Option, IsSome, IsOk, OnOk, OnErr, IfOk, IfSome, IfNone};
 ghost use Rattle.sat_terms.specs.Literal.{has};
 ghost use Rattle.sat_terms.specs.Answer.{Within};
 ghost use Rattle.clause_store.specs.Stored.{Stored, slot, slot_lits};
@@ -24,7 +24,7 @@ use trail_state::trail::Trail;
 /// the lists follow a trail.
 #[derive(Drop)]
 pub struct Watches {
-    // The attached firm clauses of two or more literals, each of which is looked at when one of its literals became false.
+    // The attached firm clauses of two or more literals, each of which is looked at when one of its literals becomes false.
     listed: Marks,
     // The other attached clauses, which are looked at in turn.
     scanned: Vec<ClauseId>,
@@ -169,6 +169,7 @@ impl Watches {
     {
         if is_listable(store, id) {
             self.listed.add(id)?;
+            // The clause may be false or unit by literals that were looked at.
             self.head = 0;
         } else {
             self.scanned.push(id)?;
@@ -198,6 +199,7 @@ impl Watches {
         ensures follows { (s : List (Option Stored)) (before : Trace) (level : ℕ) → Follows self.old s before → IsBack before trail.now level → Follows self.new s trail.now }
     {
         let _ = trail;
+        // A true literal may be gone that kept a clause from being looked at again.
         self.head = 0;
     }
 
@@ -212,7 +214,8 @@ impl Watches {
 
     /// Assigns what the attached clauses imply, until nothing more follows or one of them is false, and answers that one. Each
     /// attached clause must be live, as it was when it was attached, with its variables declared on the trail, and the lists
-    /// must follow the trail. Each literal that is appended has its clause as its reason. It takes no memory.
+    /// must follow the trail. Each literal that is appended has its clause as its reason. It takes no memory, and
+    /// `Memory` never comes from this form of the lists.
     ///
     /// A firm clause of two or more literals is looked at only when one of its literals became false, by the store's lists of the
     /// clauses of a literal; the other clauses are looked at in rounds.
