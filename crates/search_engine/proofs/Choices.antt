@@ -1,6 +1,5 @@
 -- Laws of turns that decide.
-use Rattle.std.proofs.Common.{◌≡◌, ℕ, ◌+◌, ◌<◌, true, false, List, [], ◌∷◌, ◌++◌, length, get_or, take, ◌⊎◌, inl, inr, refl, sym, ap, ◌∙◌, subst, arith, Option, Some, None}
-use Rattle.std.specs.Prelude.{IfNone}
+use Rattle.std.proofs.Common.{◌≡◌, ℕ, ◌+◌, ◌<◌, true, false, List, [], ◌∷◌, ◌++◌, length, get_or, take, ◌⊎◌, inl, inr, refl, sym, ap, ◌∙◌, subst, arith, Option}
 use Rattle.std.proofs.lemmas.Bool.{false≢true}
 use Rattle.std.proofs.lemmas.List.{take-append-le, take_at, length_push}
 use Rattle.sat_terms.specs.Literal.{has, pos_lit}
@@ -19,7 +18,8 @@ use Rattle.search_engine.specs.declared.state.Core.{Core}
 use Rattle.search_engine.specs.declared.cursor.Cursor.{Cursor}
 use Rattle.search_engine.specs.Searching.{IsReady, Learns, Keeps}
 use Rattle.search_engine.specs.Turns.{AllOn, KeepsTrue, AssumesFirst, IsBetweenTurns, RankRises, Next, Passed}
-use Rattle.search_engine.proofs.Values.{true_in_front, true_longer, valued_kept, clauses_kept}
+use Rattle.watch_lists.proofs.Resting.{true_longer}
+use Rattle.search_engine.proofs.Values.{true_in_front, valued_kept, clauses_kept}
 
 -- what holds of the front of a list and of the next member
 pub each_more : (P : ℕ → Type 0) (xs : List ℕ) (i x : ℕ) → ((k : ℕ) → has (take i xs) k ≡ true → P k) → i < length xs → x ≡ get_or xs i x → P x → (k : ℕ) → has (take (i + 1) xs) k ≡ true → P k
@@ -41,11 +41,6 @@ passed_on assumptions firm c old new passed on clause var = record {
   met = rw clause passed.met;
   valued = rw var passed.valued;
 }
-
--- what follows where there is nothing
-pub if_none_more : {A : Type 0} (r : Option A) (P Q : Type 0) → (P → Q) → IfNone r P → IfNone r Q
-if_none_more None P Q more h = more h
-if_none_more (Some x) P Q more h = h
 
 -- the rank rises by a literal more
 pub rises_push : (t : List Step) (x : Step) → RankRises t (t ++ x ∷ [])

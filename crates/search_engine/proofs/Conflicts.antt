@@ -1,7 +1,7 @@
 -- What a learned clause changes.
-use Rattle.std.proofs.Common.{◌≡◌, ◌≢◌, ℕ, suc, zero, ◌<◌, ◌≤◌, true, false, ◌||◌, eqb, List, [], ◌∷◌, ◌++◌, length, get_or, take, inl, inr, refl, sym, ap, ◌∙◌, subst, arith, Option, Some, None}
+use Rattle.std.proofs.Common.{◌≡◌, ◌≢◌, ℕ, suc, ◌<◌, ◌≤◌, true, false, ◌||◌, eqb, List, [], ◌∷◌, ◌++◌, length, get_or, take, inl, inr, refl, sym, ap, ◌∙◌, subst, arith, Option, Some, None}
 use Rattle.std.specs.Prelude.{IsSome}
-use Rattle.std.proofs.lemmas.Bool.{false≢true, cases_eq, or_left, or_right, eq-eqb, ne_eqb}
+use Rattle.std.proofs.lemmas.Bool.{false≢true, cases_eq, or_right, eq-eqb, ne_eqb}
 use Rattle.std.proofs.lemmas.List.{length-take-le, take-take, take-append-le}
 use Rattle.std.proofs.Math.Bool.{or-false}
 use Rattle.sat_terms.specs.Literal.{has, neg, var_of}
@@ -10,6 +10,7 @@ use Rattle.sat_terms.proofs.Literals.{var_of-neg}
 use Rattle.redundancy.specs.Redundancy.{Implies}
 use Rattle.clause_store.specs.Stored.{Stored, slot, slot_lits, is_firm, StoreTrue, Fills}
 use Rattle.clause_store.proofs.Slots.{StoreTrue-filled}
+use Rattle.normal_form.proofs.Members.{has_at}
 use Rattle.trail_state.specs.declared.trail.Step.{Step}
 use Rattle.trail_state.specs.declared.reason.Reason.TheVariants.{Decision, Clause}
 use Rattle.trail_state.specs.Trail.{Trace, step, true_on, value_on, IsTrail, IsBack, HasRoom}
@@ -39,13 +40,8 @@ false_named t l room off =
     let h = room.named p.0 p.1 in
     (let low = h.0 in omega arith, let high = h.1 in omega arith)
 
-has_here : (c : List ℕ) (k d : ℕ) → k < length c → has c (get_or c k d) ≡ true
-has_here [] k d in' = absurd (omega arith)
-has_here (y ∷ c) zero d in' = or_left (eqb y y) (has c y) (eq-eqb y y refl)
-has_here (y ∷ c) (suc k) d in' = or_right (eqb y (get_or c k d)) (has c (get_or c k d)) (has_here c k d (omega arith))
-
 pub false_within : (t : Trace) (c : List ℕ) → HasRoom t → FalseOn t.steps c → Within t.declared c
-false_within t c room off k d in' = false_named t (get_or c k d) room (off (get_or c k d) (has_here c k d in'))
+false_within t c room off k d in' = false_named t (get_or c k d) room (off (get_or c k d) (has_at c k d in'))
 
 -- a redundant clause more in the store
 module _ (s s' : List (Option Stored)) (id : ℕ) (c : Stored) (fills : Fills s s' id c) where

@@ -25,7 +25,7 @@ use Rattle.search_engine.specs.declared.cursor.Cursor.{Cursor}
 use Rattle.search_engine.specs.Searching.{AttachesLive, IsReady, Learns, Keeps, FoundIs}
 use Rattle.search_engine.specs.Turns.{AssumesFirst, NamesFirm, IsBetweenTurns, RankRises, Passed, TurnIs}
 use Rattle.search_engine.proofs.Choices.{learns_same, passed_kept}
-use Rattle.search_engine.proofs.Values.{true_longer}
+use Rattle.watch_lists.proofs.Resting.{true_longer}
 
 -- what holds of the value of an `Ok`
 pub ok_more : {A E : Type 0} (r : Result A E) (P Q : A → Type 0) → ((x : A) → P x → Q x) → IfOk r P → IfOk r Q
@@ -36,9 +36,6 @@ pub ok_always : {A E : Type 0} (r : Result A E) (P : A → Type 0) → ((x : A) 
 ok_always (Ok x) P all = all x
 ok_always (Err e) P all = tt
 
-step_left : (t more : List Step) (i : ℕ) → i < length t → step (t ++ more) i ≡ step t i
-step_left t more i in' = get_or_append_left t more no_step i in'
-
 -- a step keeps its reason on a longer trail
 rooted_by_longer : (s : List (Option Stored)) (t more : List Step) (i : ℕ) (r : Reason) → i < length t → RootedBy s t i r → RootedBy s (t ++ more) i r
 rooted_by_longer s t more i Decision in' h = tt
@@ -46,8 +43,8 @@ rooted_by_longer s t more i (Clause id) in' h = (h.0, reason_kept (slot_lits (sl
 rooted_by_longer s t more i Theory in' h = absurd h
 
 rooted_at_longer : (s : List (Option Stored)) (t more : List Step) (i : ℕ) → i < length t → RootedAt s t i → RootedAt s (t ++ more) i
-rooted_at_longer s t more i in' (inl r) = inl (rw (step_left t more i in') (rooted_by_longer s t more i (step t i).reason in' r))
-rooted_at_longer s t more i in' (inr u) = inr (rw (step_left t more i in') u)
+rooted_at_longer s t more i in' (inl r) = inl (rw (get_or_append_left t more no_step i in') (rooted_by_longer s t more i (step t i).reason in' r))
+rooted_at_longer s t more i in' (inr u) = inr (rw (get_or_append_left t more no_step i in') u)
 
 -- a trail that propagation let grow is rooted
 pub rooted_grown : (ids : List ℕ) (s : List (Option Stored)) (old new : Trace) → AttachesLive ids s → Grown ids s old new → Rooted s old.steps → Rooted s new.steps
@@ -65,7 +62,7 @@ pub first_grown : (assumptions ids : List ℕ) (s : List (Option Stored)) (old n
 first_grown assumptions ids s old new g first i in' dec =
     elim (cases_lt i (length old.steps)) [
       | inl lt ↦
-          let same : step new.steps i ≡ step old.steps i = rw g.steps (step_left old.steps g.tail i lt) in
+          let same : step new.steps i ≡ step old.steps i = rw g.steps (get_or_append_left old.steps g.tail no_step i lt) in
           rw (same, g.steps, take-append-le i old.steps g.tail (omega arith)) (first i lt (rw same at dec))
       | inr ge ↦
           let h = g.implied i ge in' in

@@ -1,5 +1,6 @@
 use Rattle.search_engine.specs.Turns.{KeepsTrue}
-use Rattle.search_engine.proofs.Values.{true_longer, valued_kept}
+use Rattle.watch_lists.proofs.Resting.{true_longer}
+use Rattle.search_engine.proofs.Values.{valued_kept}
 use Rattle.rooted_trails.proofs.Reasons.{rooted_push}
 use Rattle.std.proofs.Common.{◌∙◌}
 use Rattle.search_engine.proofs.choice.decide_rest.Goals as goal

@@ -1,5 +1,5 @@
 use Rattle.search_engine.proofs.Values.{all_met}
-use Rattle.search_engine.proofs.Choices.{if_none_more}
+use Rattle.watch_lists.proofs.Growing.{if_none_more}
 use Rattle.search_engine.proofs.choice.next_decision.Goals as goal
 
 pub returns-clause-none : goal.returns-clause-none
