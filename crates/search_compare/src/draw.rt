@@ -8,18 +8,18 @@ use std::test::Fail;
 
 /// Numbers that are drawn one after another (Knuth's linear congruential generator).
 #[derive(Drop)]
-pub struct Draw {
+pub(crate) struct Draw {
     state: u64,
 }
 
 impl Draw {
     /// The numbers of a seed.
-    pub fn new(seed: u64) -> Draw {
+    pub(crate) fn new(seed: u64) -> Draw {
         Draw { state: seed }
     }
 
     /// A number below a bound.
-    pub fn below(&mut self, bound: u32) -> u32
+    pub(crate) fn below(&mut self, bound: u32) -> u32
         requires { 0 < bound }
         ensures { result < bound }
     {
@@ -32,7 +32,7 @@ impl Draw {
     }
 
     /// A literal of one of the first variables.
-    pub fn literal(&mut self, vars: u32) -> Result<Lit, Fail>
+    pub(crate) fn literal(&mut self, vars: u32) -> Result<Lit, Fail>
         requires { 0 < vars }
     {
         let var = Var::new(self.below(vars).saturating_add(1)).ok_or("no variable")?;
@@ -45,7 +45,7 @@ impl Draw {
     }
 
     /// So many literals of the first variables.
-    pub fn literals(&mut self, alloc: Global, vars: u32, count: u32) -> Result<Lits, Fail>
+    pub(crate) fn literals(&mut self, alloc: Global, vars: u32, count: u32) -> Result<Lits, Fail>
         requires { 0 < vars }
     {
         let mut lits = Lits::new(alloc);

@@ -91,6 +91,7 @@ impl Core {
         ensures declared { self.new.trail.declared ≡ self.old.trail.declared }
         ensures store { self.new.store ≡ self.old.store }
         ensures model { self.new.model.items ≡ self.old.model.items }
+        ensures tally { self.new.tally ≡ self.old.tally }
     {
         self.trail.back_to(0);
     }

@@ -4,13 +4,15 @@ use Rattle.sat_terms.specs.Truth.{Assignment, clause_true}
 use Rattle.sat_terms.specs.Answer.{Within}
 use Rattle.clause_store.specs.Stored.{Stored, FirmTrue, StoreTrue}
 use Rattle.rooted_trails.specs.Rooted.{Rooted}
+use Rattle.conflict_analysis.specs.Counting.{Counted}
 use Rattle.search_engine.specs.declared.state.Core.{Core}
 use Rattle.search_engine.specs.Searching.{StoreWithin}
 
--- the stored clauses, and the greatest declared variable
+-- the stored clauses, the greatest declared variable, and the count of the conflicts of the last search
 pub record Held : Type 0 where
   pub store : List (Option Stored)
   pub declared : ℕ
+  pub tally : Counted
 
 -- The core is between two searches: its trail is at the root and has its reasons.
 pub record IsAtRest (c : Core) : Type 0 where

@@ -17,6 +17,7 @@ use Rattle.solver_api.specs.declared.calls.Refusal.{Refusal}
 use Rattle.solver_api.specs.declared.calls.Refusal.TheVariants as refusals
 use Rattle.solver_api.specs.declared.solver.Solver.{Solver}
 use Rattle.search_engine.specs.declared.state.Spent.TheVariants.{Conflicts}
+use Rattle.search_engine.specs.Searching.{IsSpent}
 use Rattle.solver_api.specs.Given.{GivenTrue}
 
 -- what a solver shows
@@ -85,6 +86,12 @@ Refused old call why new = ⊥
 abbrev pub Step : State → Call → Result Reply Refusal → State → Type 0
 Step old call (Ok reply) new = Accepted old call reply new
 Step old call (Err why) new = Refused old call why new
+
+-- Unknown says how many conflicts were counted in this solve, which is the budget, and the solver's tally is spent.
+abbrev pub IsCounted : Outcome → Solver → Type 0
+IsCounted Sat s = Unit {0}
+IsCounted Unsat s = Unit {0}
+IsCounted (Unknown (Conflicts n)) s = IsSpent n s.engine.tally
 
 -- the answer of a call that answers nothing but its refusals
 abbrev pub done : Result (Unit {0}) Refusal → Result Reply Refusal

@@ -4,7 +4,7 @@ ghost use Rattle.sat_terms.specs.Answer.{Within};
 ghost use Rattle.rooted_trails.specs.Rooted.{Rooted};
 ghost use Rattle.search_engine.specs.Searching.{StoreWithin, Learns};
 ghost use Rattle.solver_api.specs.Held.{IsAtRest, Takes};
-ghost use Rattle.solver_api.specs.Finds.{Finds};
+ghost use Rattle.solver_api.specs.Finds.{Finds, IsCaused};
 
 use crate::mode::Values;
 use clause_store::stored::Keep;
@@ -29,8 +29,8 @@ pub(crate) enum Answer {
     Spent(Spent),
 }
 
-// The clauses that a solver stores, and the state of its search. Contracts see the stored clauses and the greatest declared
-// variable.
+// The clauses that a solver stores, and the state of its search. Contracts see the stored clauses, the greatest declared
+// variable, and the count of the conflicts of the last search.
 #[derive(Drop)]
 pub(crate) struct Engine {
     core: Core,
@@ -41,7 +41,7 @@ impl Model for Engine {
 
     ghost Value = { Held };
 
-    ghost view = { λ e. record { store = e.core.store; declared = e.core.trail.declared } };
+    ghost view = { λ e. record { store = e.core.store; declared = e.core.trail.declared; tally = e.core.tally } };
 
     ghost invariant = { λ e. IsAtRest e.core };
 }
@@ -61,6 +61,7 @@ fn find(
     requires declared { core.old.trail.declared ≤ vars }
     requires budget { budget.conflicts ≤ 2 ^ 62 }
     ensures finds { IfOk result (Finds core.old.store assumptions.now vars budget.conflicts) }
+    ensures caused { IfOk result (λ answer. IsCaused answer core.new.tally) }
     ensures learns { Learns core.old.store core.new.store }
     ensures rooted { Rooted core.new.store core.new.trail.steps }
     ensures within { StoreWithin vars core.new.store }
@@ -116,6 +117,7 @@ impl Engine {
         requires declared { self.old.declared ≤ vars }
         requires budget { budget.conflicts ≤ 2 ^ 62 }
         ensures finds { IfOk result (Finds self.old.store assumptions.now vars budget.conflicts) }
+        ensures caused { IfOk result (λ answer. IsCaused answer self.new.tally) }
         ensures learns { Learns self.old.store self.new.store }
         ensures within { StoreWithin vars self.new.store }
         ensures declared { self.new.declared ≤ vars }

@@ -74,7 +74,7 @@ fn give(alloc: Global, given: &mut Givens, engine: &mut Engine, lits: &[Lit]) ->
 
 impl Solver {
     ghost use Rattle.solver_api.specs.declared.calls.Call.TheVariants as calls;
-    ghost use Rattle.solver_api.specs.Steps.{Step, InRange, state, unused, done, solved, model_of, core_of, val_of, failed_of};
+    ghost use Rattle.solver_api.specs.Steps.{Step, InRange, IsCounted, state, unused, done, solved, model_of, core_of, val_of, failed_of};
 
     /// A solver that was given nothing. It keeps the allocator.
     pub fn new(alloc: Global) -> Result<Solver, Memory>
@@ -141,7 +141,8 @@ impl Solver {
         requires conflicts { budget.conflicts ≤ 2 ^ 62 }
         requires callbacks { budget.callbacks ≤ 2 ^ 62 }
         requires limit { limit ≤ 2 ^ 62 }
-        ensures { Step (state self.old) (calls.Solve budget limit) (solved result) (state self.new) }
+        ensures step { Step (state self.old) (calls.Solve budget limit) (solved result) (state self.new) }
+        ensures counted { IfOk result (λ outcome. IsCounted outcome self.new) }
     {
         self.mode = Mode::Input;
         let pending = mem::replace(&mut self.pending, Lits::new(self.alloc));

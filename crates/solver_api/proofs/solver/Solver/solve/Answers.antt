@@ -14,8 +14,8 @@ invariant_of-self c =
           (stands_core s.engine s.given s.pending s.queried s.taken s.greatest s.settled s.mode s.stands s.engine [] s.stands.stored (s.stands.hopeless c.if-self.true));
     }
 
-pub returns-then-self : goal.returns-then-self
-returns-then-self c =
+pub returns-then-self-clause-step : goal.returns-then-self-clause-step
+returns-then-self-clause-step c =
     let s = c.args.self.now in
     let settled : s.settled ≡ (s.settled || true) = rw c.if-self.true refl in
     ([], empty_core (GivenTrue s.given) s.pending [] refl (s.stands.hopeless c.if-self.true), λ _. refl, cc)
