@@ -87,7 +87,7 @@ abbrev pub Step : State → Call → Result Reply Refusal → State → Type 0
 Step old call (Ok reply) new = Accepted old call reply new
 Step old call (Err why) new = Refused old call why new
 
--- Unknown says how many conflicts were counted in this solve, which is the budget, and the solver's tally is spent.
+-- where the answer is Unknown, the solver's tally has counted as many conflicts as that says, and is spent
 abbrev pub IsCounted : Outcome → Solver → Type 0
 IsCounted Sat s = Unit {0}
 IsCounted Unsat s = Unit {0}
