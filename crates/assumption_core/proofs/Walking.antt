@@ -1,5 +1,5 @@
 -- What stays blocked along the walk, and what its end says.
-use Rattle.std.proofs.Common.{◌≡◌, ℕ, ◌+◌, ◌<◌, Bool, true, false, eqb, List, [], ◌∷◌, length, take, inl, inr, refl, sym, ◌∙◌, subst, arith, add-one, Option, Some, None}
+use Rattle.std.proofs.Common.{◌≡◌, ℕ, ◌+◌, ◌<◌, ◌≤◌, Bool, true, false, eqb, List, [], ◌∷◌, length, take, inl, inr, refl, sym, ◌∙◌, subst, arith, add-one, Option, Some, None}
 use Rattle.std.specs.Prelude.{IsSome, IfOk, Result, Ok, Err}
 use Rattle.std.proofs.lemmas.Bool.{false≢true, or_cases, or_left, eqb-true, eq-eqb, cases_lt, and_parts}
 use Rattle.std.proofs.lemmas.List.{take_all, get_or_past}
@@ -11,7 +11,7 @@ use Rattle.sat_terms.proofs.Truths.{clause_true-from}
 use Rattle.clause_store.specs.Stored.{Stored, StoreTrue, slot, slot_lits}
 use Rattle.trail_state.specs.declared.trail.Step.{Step}
 use Rattle.trail_state.specs.declared.reason.Reason.TheVariants.{Clause}
-use Rattle.trail_state.specs.Trail.{step, true_on, IsTrail}
+use Rattle.trail_state.specs.Trail.{step, true_on, IsTrail, IsStart}
 use Rattle.trail_state.specs.Clauses.{FalseOn}
 use Rattle.rooted_trails.specs.Rooted.{RootedBy, Rooted}
 use Rattle.rooted_trails.specs.Marks.{flag, RootFollows, BlockedCore, Grows}
@@ -100,3 +100,12 @@ pub core_found : {E : Type 0} (s : List (Option Stored)) (t : List Step) (assump
 core_found s t assumptions start falsified seen (Ok core) m is blocked decides starts held =
     core_is s t falsified seen assumptions core m held (rw is blocked) decides (λ l e. falsified_assumed s t assumptions start starts l (sym is ∙ e))
 core_found s t assumptions start falsified seen (Err e) m is blocked decides starts held = tt
+
+-- below the first place above the root nothing is marked
+pub core_rest : (F : Assignment → Type 0) (t : List Step) (seen : List Bool) (i start : ℕ) → IsMarked t seen → IsStart t 1 start → i ≤ start → BlockedCore F t seen i → BlockedCore F t seen 0
+core_rest F t seen i start m first le b f h all =
+    b f h (λ j on where'.
+    elim where' [
+      | inl lt ↦ absurd (let low = first.below j (omega arith) in let high = m.above j on in omega arith)
+      | inr d ↦ all j on (inr d)
+    ])

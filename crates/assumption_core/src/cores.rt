@@ -1,4 +1,9 @@
-//! Cores.
+//! Cores: the assumptions that fail together.
+//!
+//! The assumptions are the first decisions of the trail. Where one of them is false, or a clause is
+//! false while nothing else was decided, the clauses and some of the assumptions have no model.
+//! Those that take part are found by walking back over the reasons (needs.rt). The core has them in
+//! the order of the query and each once, however often it was assumed. It need not be a least one.
 ghost use Rattle.std.specs.Prelude.{◌≡◌, IfOk};
 ghost use Rattle.sat_terms.specs.Answer.{IsCore};
 ghost use Rattle.clause_store.specs.Stored.{StoreTrue};
@@ -22,10 +27,11 @@ pub enum CoreStart {
     Conflict(ClauseId),
 }
 
-/// The assumptions that a conflict comes from, without repeats and in the order of `assumptions`: no assignment that makes the
-/// clauses of the store true makes all of them true. The trail must be rooted in the store, every decision must be an
-/// assumption, and the assumption or the live clause of `start` must be false on the trail. It walks back over the trail, from
-/// what is false to the decisions that imply it (the final analysis of MiniSat), in time linear in the trail, the
+/// The assumptions that a conflict comes from, without repeats and in the order of `assumptions`:
+/// no assignment that makes the clauses of the store true makes all of them true. The trail must be
+/// rooted in the store, every decision must be an assumption, and the assumption or the live clause
+/// of `start` must be false on the trail. It walks back over the trail, from what is false to the
+/// decisions that imply it (the final analysis of MiniSat), in time linear in the trail, the
 /// assumptions and the clauses that it meets. It answers `Memory` only where it got none.
 pub fn core_of(
     alloc: Global,

@@ -1,4 +1,12 @@
 //! What a core needs.
+//!
+//! The walk begins with what is false marked, and goes down the trail from the newest literal to
+//! the first above the root. A marked literal that a clause implied gives its mark to the other
+//! literals of that clause, which all stand earlier; a marked decision, which is an assumption,
+//! keeps it. So at the end the marked decisions are assumptions that, with the clauses, made false
+//! what was false at the start (the final analysis of MiniSat: Eén and Sörensson 2003). It is no
+//! resolution to a first unique implication point: that stops at the current level, and here all
+//! levels count.
 ghost use Rattle.std.specs.Prelude.{◌≡◌, ◌<◌, ◌+◌, ℕ, Bool, Some, None, true, false, take, length, IfOk};
 ghost use Rattle.sat_terms.specs.Literal.{has, neg};
 ghost use Rattle.sat_terms.specs.Truth.{Assignment};
@@ -18,8 +26,9 @@ use std::alloc::Global;
 use trail_state::reason::Reason;
 use trail_state::trail::Trail;
 
-// What a core needs: the falsified assumption, if there is one, and the decisions at the marked places of the trail. Before
-// the walk back over the trail reaches a marked place of an implied literal, its mark stands for what implied it.
+// What a core needs: the falsified assumption, if there is one, and the decisions at the marked
+// places of the trail. Before the walk back over the trail reaches a marked place of an implied
+// literal, its mark stands for what implied it.
 #[derive(Drop)]
 pub(crate) struct Needs {
     falsified: Option<Lit>,
@@ -47,7 +56,7 @@ impl Needs {
         ensures grows { Grows self.old.places.items self.new.places.items }
         ensures covered { (below : ℕ) → true_on (take below trail.now.steps) (neg lit) ≡ true → Covered trail.now.steps self.new.places.items below lit }
     {
-        trail.has_shape();
+        trail.law_shape();
         match place_above_root(trail, lit.var()) {
             Some(place) => {
                 self.places[place] = true;
@@ -69,7 +78,8 @@ impl Needs {
         }
     }
 
-    // Needs what starts the core: the falsified assumption and what made it false, or what made the clause false.
+    // Needs what starts the core: the falsified assumption and what made it false, or what made the
+    // clause false.
     pub(crate) fn start(
         &mut self,
         store: &Store,
@@ -85,7 +95,7 @@ impl Needs {
         ensures marked { IsMarked trail.now.steps self.new.places.items }
         ensures blocked { BlockedCore (Both store.now (asks (falsified_by start))) trail.now.steps self.new.places.items (length trail.now.steps) }
     {
-        trail.has_shape();
+        trail.law_shape();
         match start {
             CoreStart::Falsified(lit) => {
                 self.falsified = Some(lit);
@@ -105,7 +115,7 @@ impl Needs {
         ensures blocked { (test : Assignment → Bool) → BlockedCore (Both store.now test) trail.now.steps self.old.places.items (place + 1)
             → BlockedCore (Both store.now test) trail.now.steps self.new.places.items place }
     {
-        trail.has_shape();
+        trail.law_shape();
         if !self.places[place] {
             return;
         }
@@ -125,8 +135,10 @@ impl Needs {
         ensures blocked { (test : Assignment → Bool) → BlockedCore (Both store.now test) trail.now.steps self.old.places.items (length trail.now.steps)
             → BlockedCore (Both store.now test) trail.now.steps self.new.places.items 0 }
     {
+        // What stands at the root is never marked, since it follows from the clauses.
+        let end = trail.start_of(1) as usize;
         let mut place = trail.lits().len();
-        'walk: while place > 0 {
+        'walk: while place > end {
             place -= 1;
             self.resolve(store, trail, place);
         }
@@ -156,7 +168,7 @@ impl Needs {
         ensures marked { IsMarked trail.now.steps self.new.places.items }
         ensures takes { Takes (IsDecided trail.now.steps self.old.places.items) (IsDecided trail.now.steps self.new.places.items) lit result }
     {
-        trail.has_shape();
+        trail.law_shape();
         let place = match decided_at(trail, lit) {
             Some(place) => place,
             None => return false,

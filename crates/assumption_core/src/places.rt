@@ -1,4 +1,7 @@
 //! What the trail says of a place.
+//!
+//! A place is where a literal stands on the trail, the oldest at 0: its reason, whether it was
+//! decided there, and where a variable stands if that is above the root.
 ghost use Rattle.std.specs.Prelude.{◌≡◌, ◌≢◌, ◌<◌, ℕ, length, IfSome, IfNone};
 ghost use Rattle.sat_terms.specs.Literal.{var_of};
 ghost use Rattle.trail_state.specs.Trail.{step};
@@ -15,9 +18,9 @@ pub(crate) fn place_above_root(trail: &Trail, var: Var) -> Option<usize>
     ensures above { IfSome result (λ k. 0 < (step trail.now.steps k).level) }
     ensures none { IfNone result ((j : ℕ) → j < length trail.now.steps → var_of (step trail.now.steps j).lit ≡ var → (step trail.now.steps j).level ≡ 0) }
 {
-    trail.has_shape();
+    trail.law_shape();
     let place = trail.place_of(var)?;
-    let level = trail.level_of(var)?;
+    let level = trail.level_at(place);
     if level == 0 {
         None
     } else {
@@ -30,12 +33,8 @@ pub(crate) fn reason_at(trail: &Trail, place: usize) -> Reason
     requires { place < length trail.now.steps }
     ensures { result ≡ (step trail.now.steps place).reason }
 {
-    trail.has_shape();
-    let lit = trail.lits()[place];
-    match trail.reason_of(lit.var()) {
-        Some(reason) => reason,
-        None => unreachable!(),
-    }
+    trail.law_room();
+    trail.reason_at(place as u32)
 }
 
 // The place where a literal was decided, if it was.
@@ -45,7 +44,7 @@ pub(crate) fn decided_at(trail: &Trail, lit: Lit) -> Option<usize>
     ensures decided { IfSome result (λ k. (step trail.now.steps k).reason ≡ Decision) }
     ensures none { IfNone result ((j : ℕ) → j < length trail.now.steps → (step trail.now.steps j).reason ≡ Decision → (step trail.now.steps j).lit ≢ lit) }
 {
-    trail.has_shape();
+    trail.law_shape();
     let place = trail.place_of(lit.var())? as usize;
     if trail.lits()[place] != lit {
         return None;

@@ -1,99 +1,212 @@
-//! The happy path of the call.
-ghost use Rattle.std.specs.Prelude.{◌≡◌, ◌≢◌, ◌≤◌, [], ◌∷◌, None, IsSome, IsTrue};
-ghost use Rattle.sat_terms.specs.Literal.{var_of, neg};
+//! Cores of small scenes and a wide one: which assumptions are in them, and which are left out.
+ghost use Rattle.std.specs.Prelude.{◌≡◌, ◌<◌, ℕ, true, length, IsSome};
+ghost use Rattle.sat_terms.specs.Literal.{has, neg};
 ghost use Rattle.clause_store.specs.Stored.{slot, slot_lits};
-ghost use Rattle.trail_state.specs.Trail.{value_on};
+ghost use Rattle.trail_state.specs.Trail.{step, true_on};
+ghost use Rattle.trail_state.specs.Clauses.{FalseOn};
+ghost use Rattle.trail_state.specs.declared.reason.Reason.TheVariants.{Decision};
+ghost use Rattle.assumption_core.specs.Core.{DecidesAssumed};
 
 use crate::cores::{CoreStart, core_of};
+use crate::places::reason_at;
 use clause_store::store::Store;
-use clause_store::stored::Keep;
+use rooted_scenes::scene::{Scene, is_false, lit, lits};
 use sat_model::lists::{ClauseId, Lits};
 use sat_model::literal::Lit;
-use sat_model::memory::Memory;
 use std::alloc::Global;
 use std::test::Fail;
 use trail_state::reason::Reason;
 use trail_state::trail::Trail;
 
-// Adds the firm clause of two literals whose variables rise.
-fn add_pair(store: &mut Store, low: Lit, high: Lit) -> Result<ClauseId, Fail> {
-    if low.var().index() < high.var().index() {
-        Ok(store.add(&[low, high], Keep::Firm, 0)?)
-    } else {
-        Err("the variables do not rise")?
+// What a scene is made of, and its core. The clauses; the literals of the trail, each with the
+// number of its reason, or 0 where it was decided; the assumptions; the one that is false, or 0;
+// the number of the false clause, where there is no such assumption; the core. Clauses are numbered
+// from 1 on.
+#[derive(Drop)]
+struct Row<'a> {
+    clauses: &'a [&'a [i32]],
+    trail: &'a [(i32, usize)],
+    assumptions: &'a [i32],
+    falsified: i32,
+    conflict: usize,
+    core: &'a [i32],
+}
+
+// The clause of a number.
+fn named(ids: &[ClauseId], number: usize) -> Result<ClauseId, Fail> {
+    for (k, id) in ids.iter().enumerate() {
+        if k + 1 == number {
+            return Ok(*id);
+        }
     }
+    Err("no such clause")?
 }
 
-// Whether an id names the clause of these two literals.
-fn names(store: &Store, id: ClauseId, low: Lit, high: Lit) -> bool
-    ensures live { IsTrue result → IsSome (slot store.now id) }
-    ensures lits { IsTrue result → slot_lits (slot store.now id) ≡ low ∷ high ∷ [] }
-{
-    if !store.is_live(id) {
-        return false;
+// Puts a literal on the trail of a scene.
+fn put(scene: &mut Scene, ids: &[ClauseId], number: i32, reason: usize) -> Result<(), Fail> {
+    if reason == 0 {
+        return scene.decide(number);
     }
-    let lits = store.get(id);
-    lits.len() == 2 && lits[0] == low && lits[1] == high
+    let id = named(ids, reason)?;
+    scene.imply(number, id)
 }
 
-// Whether the variable of a literal is declared and has no value.
-fn is_open(trail: &Trail, lit: Lit) -> bool
-    ensures declared { IsTrue result → var_of lit ≤ trail.now.declared }
-    ensures free { IsTrue result → value_on trail.now.steps lit ≡ None }
+// Whether a literal, if it was decided, is an assumption.
+fn is_assumed_at(trail: &Trail, place: usize, assumptions: &[Lit]) -> bool
+    requires { place < length trail.now.steps }
+    ensures { result ≡ true → (step trail.now.steps place).reason ≡ Decision → has assumptions.now (step trail.now.steps place).lit ≡ true }
 {
-    lit.var().index() <= trail.declared() && trail.value(lit).is_none()
+    reason_at(trail, place) != Reason::Decision || assumptions.contains(&trail.lits()[place])
 }
 
-// The core of the assumptions `first` and the opposite of `last`, where `first` is decided and the two clauses imply first
-// `middle` and then `last`. `None` where the store or the trail is not as that asks.
-fn chain_core(
+// Whether every decision is an assumption.
+fn decides_assumed(trail: &Trail, assumptions: &[Lit]) -> bool
+    ensures { result ≡ true → DecidesAssumed trail.now.steps assumptions.now }
+{
+    for place in 0..trail.lits().len() {
+        if !is_assumed_at(trail, place, assumptions) {
+            return false;
+        }
+    }
+    true
+}
+
+// Whether an assumption is false.
+fn is_falsified(trail: &Trail, assumptions: &[Lit], lit: Lit) -> bool
+    ensures assumed { result ≡ true → has assumptions.now lit ≡ true }
+    ensures is_false { result ≡ true → true_on trail.now.steps (neg lit) ≡ true }
+{
+    assumptions.contains(&lit) && trail.value(lit) == Some(false)
+}
+
+// Whether a live clause is false.
+fn is_conflict(store: &Store, trail: &Trail, id: ClauseId) -> bool
+    ensures live { result ≡ true → IsSome (slot store.now id) }
+    ensures is_false { result ≡ true → FalseOn trail.now.steps (slot_lits (slot store.now id)) }
+{
+    store.is_live(id) && is_false(trail, store.get(id))
+}
+
+// The core of a falsified assumption.
+fn falsified_core(
     alloc: Global,
-    store: &Store,
-    ids: (ClauseId, ClauseId),
-    first: Lit,
-    middle: Lit,
-    last: Lit,
-) -> Result<Option<Lits>, Memory> {
-    let (one, two) = ids;
-    let mut trail = Trail::new(alloc);
-    trail.declare(last.var())?;
-    if !names(store, one, middle, first.neg()) || !names(store, two, middle.neg(), last) {
-        return Ok(None);
+    scene: &Scene,
+    assumptions: &[Lit],
+    lit: Lit,
+) -> Result<Lits, Fail> {
+    scene.law_rooted();
+    let store = scene.store();
+    let trail = scene.trail();
+    if decides_assumed(trail, assumptions) && is_falsified(trail, assumptions, lit) {
+        return Ok(core_of(alloc, store, trail, assumptions, CoreStart::Falsified(lit))?);
     }
-    if !is_open(&trail, first) {
-        return Ok(None);
+    Err("not a false assumption")?
+}
+
+// The core of a false clause.
+fn conflict_core(
+    alloc: Global,
+    scene: &Scene,
+    assumptions: &[Lit],
+    id: ClauseId,
+) -> Result<Lits, Fail> {
+    scene.law_rooted();
+    let store = scene.store();
+    let trail = scene.trail();
+    if decides_assumed(trail, assumptions) && is_conflict(store, trail, id) {
+        return Ok(core_of(alloc, store, trail, assumptions, CoreStart::Conflict(id))?);
     }
-    trail.decide(first);
-    if !is_open(&trail, middle) {
-        return Ok(None);
+    Err("not a false clause")?
+}
+
+// The core of a row.
+fn core_from(alloc: Global, row: &Row) -> Result<Lits, Fail> {
+    let mut scene = Scene::new(alloc, 50)?;
+    let mut ids = Vec::new(alloc);
+    for clause in row.clauses {
+        ids.push(scene.add(clause)?)?;
     }
-    trail.assign(middle, Reason::Clause(one));
-    if !is_open(&trail, last) {
-        return Ok(None);
+    for (number, reason) in row.trail {
+        put(&mut scene, ids.as_slice(), *number, *reason)?;
     }
-    trail.assign(last, Reason::Clause(two));
-    let core = core_of(
-        alloc,
-        store,
-        &trail,
-        &[first, last.neg()],
-        CoreStart::Falsified(last.neg()),
-    )?;
-    Ok(Some(core))
+    let assumptions = lits(alloc, row.assumptions)?;
+    if row.falsified != 0 {
+        let falsified = lit(row.falsified)?;
+        return falsified_core(alloc, &scene, assumptions.as_slice(), falsified);
+    }
+    let id = named(ids.as_slice(), row.conflict)?;
+    conflict_core(alloc, &scene, assumptions.as_slice(), id)
+}
+
+// Whether a row has its core.
+fn is_core_of(alloc: Global, row: &Row) -> Result<bool, Fail> {
+    let found = core_from(alloc, row)?;
+    let expected = lits(alloc, row.core)?;
+    Ok(found.as_slice() == expected.as_slice())
 }
 
 #[test]
-fn falsified_assumption_has_its_core(rt: HostRuntime) -> Result<(), Fail> {
-    let alloc = rt.alloc();
-    let one = Lit::new(1).ok_or("no literal")?;
-    let two = Lit::new(2).ok_or("no literal")?;
-    let three = Lit::new(3).ok_or("no literal")?;
-    let mut store = Store::new(alloc);
-    let ids = (
-        add_pair(&mut store, one, two)?,
-        add_pair(&mut store, one.neg(), three)?,
-    );
-    let core = chain_core(alloc, &store, ids, two.neg(), one, three)?.ok_or("no chain")?;
-    assert_eq!(rt; core.as_slice(), [two.neg(), three.neg()].as_slice());
+fn cores(rt: HostRuntime) -> Result<(), Fail> {
+    let decided = [
+        (8, 0),
+        (1, 0),
+        (2, 0),
+        (3, 0),
+        (4, 0),
+        (5, 0),
+        (6, 0),
+        (7, 0),
+    ];
+    let rows = [
+        // A chain from the first assumption to the opposite of the last.
+        Row {
+            clauses: &[&[1, 2], &[-1, 3]],
+            trail: &[(-2, 0), (1, 1), (3, 2)],
+            assumptions: &[-2, -3],
+            falsified: -3,
+            conflict: 0,
+            core: &[-2, -3],
+        },
+        // The first assumption has no part in it.
+        Row {
+            clauses: &[&[-1, -2]],
+            trail: &[(3, 0), (1, 0), (2, 0)],
+            assumptions: &[3, 1, 2],
+            falsified: 0,
+            conflict: 1,
+            core: &[1, 2],
+        },
+        // Nor has one whose consequences the clause does not hold, or what stands at the root; a
+        // repeated assumption stands once.
+        Row {
+            clauses: &[&[9], &[-1, 4], &[-2, 5], &[-3, -5, -9]],
+            trail: &[(9, 1), (1, 0), (4, 2), (2, 0), (5, 3), (3, 0)],
+            assumptions: &[3, 2, 1, 2],
+            falsified: 0,
+            conflict: 4,
+            core: &[3, 2],
+        },
+        // An assumption and its opposite.
+        Row {
+            clauses: &[&[1]],
+            trail: &[(6, 0), (2, 0)],
+            assumptions: &[6, 2, -2],
+            falsified: -2,
+            conflict: 0,
+            core: &[2, -2],
+        },
+        // A core above every inline size, in query order.
+        Row {
+            clauses: &[&[-1, -2, -3, -4, -5, -6, -7]],
+            trail: &decided,
+            assumptions: &[7, 6, 5, 8, 4, 3, 2, 1],
+            falsified: 0,
+            conflict: 1,
+            core: &[7, 6, 5, 4, 3, 2, 1],
+        },
+    ];
+    for row in &rows {
+        assert!(rt; is_core_of(rt.alloc(), row)?);
+    }
     Ok(())
 }

@@ -4,3 +4,9 @@ pub mod Table
 pub mod Normals
 pub mod Slots
 pub mod Indexing
+pub mod Arrays
+pub mod Amounts
+pub mod FirmCounts
+pub mod Pieces
+pub mod Standing
+pub mod Removing

@@ -1,2 +1,9 @@
 pub mod Stored
 pub mod Listing
+pub mod Lists
+pub mod Kinds
+pub mod Placing
+pub mod Pieces
+pub mod Spots
+pub mod FirmCount
+pub mod Indexed

@@ -7,4 +7,7 @@ pub mod Glues
 pub mod Learns
 pub mod Normals
 pub mod Lessons
-pub mod Examples
+pub mod Mets
+pub mod Variables
+pub mod Turns
+pub mod Clearing

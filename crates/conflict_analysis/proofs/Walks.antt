@@ -1,8 +1,8 @@
 -- The walk down the trail.
-use Rattle.std.proofs.Common.{◌≡◌, ℕ, suc, ◌+◌, ◌-◌, ◌<◌, ◌≤◌, Bool, true, false, cond, eqb, List, length, inl, inr, sym, ap, ◌∙◌, subst, arith, Option, Some, None, Result, Ok, Err, OnOk}
+use Rattle.std.proofs.Common.{◌≡◌, ◌≢◌, ℕ, suc, ◌+◌, ◌-◌, ◌<◌, ◌≤◌, Bool, true, false, cond, eqb, List, length, inl, inr, sym, ap, ◌∙◌, subst, arith, Option, Some, None, Result, Ok, Err, OnOk}
 use Rattle.std.proofs.lemmas.Bool.{cases_eq, eqb-true, eq-eqb, and_parts, and_from}
-use Rattle.sat_terms.specs.Literal.{var_of}
-use Rattle.sat_terms.specs.Truth.{Assignment}
+use Rattle.sat_terms.specs.Literal.{has, var_of}
+use Rattle.sat_terms.specs.Truth.{Assignment, Implies}
 use Rattle.clause_store.specs.Stored.{Stored}
 use Rattle.trail_state.specs.declared.trail.Step.{Step}
 use Rattle.trail_state.specs.declared.reason.Reason.{Reason}
@@ -11,11 +11,10 @@ use Rattle.trail_state.specs.Trail.{step, reason_on, IsTrail}
 use Rattle.trail_state.proofs.Levels.{rising, below_top, opens}
 use Rattle.trail_state.proofs.Places.{place_apart, reason_at}
 use Rattle.rooted_trails.specs.Rooted.{Rooted, RootedBy}
-use Rattle.rooted_trails.specs.Marks.{flag, RootFollows, Grows}
-use Rattle.redundancy.specs.Redundancy.{Implies}
+use Rattle.rooted_trails.specs.Marks.{flag, RootFollows, Covered, Grows}
 use Rattle.rooted_trails.proofs.Reasons.{rooted_above}
 use Rattle.rooted_trails.proofs.Blocking.{blocked_step, blocked_skip}
-use Rattle.conflict_analysis.specs.Walking.{CoveredBut, is_open, open_count, Marked, Resolving, IsUip}
+use Rattle.conflict_analysis.specs.Walking.{is_open, open_count, Marked, Resolving, IsUip}
 use Rattle.conflict_analysis.proofs.Marking.{open_count-some, open_count-pos}
 
 -- the count falls by the place that is done
@@ -76,15 +75,13 @@ module _ (F : Assignment → Type 0) (t : List Step) (top i : ℕ) (seen : List 
 
   -- the resolution at i is done
   pub resolving_step : (c : List ℕ) (seen' : List Bool) (count' : ℕ) (lower' : List ℕ) → 1 < count → Implies F c → RootFollows F t
-      → Marked t top i seen' count' lower' → Grows seen seen' → CoveredBut (Some (step t i).lit) c t seen' i
+      → Marked t top i seen' count' lower' → Grows seen seen' → ((l : ℕ) → has c l ≡ true → l ≢ (step t i).lit → Covered t seen' i l)
       → Resolving F t top i seen' count' lower'
   resolving_step c seen' count' lower' more imp root marked grows covered = record {
     marked = marked;
     positive = (let k = marked.counted in let g = open_count-grows t seen seen' top i grows (left_below more) in omega arith);
-    blocked = blocked_step F t top root shape c seen seen' i imp r.blocked grows (λ l h n. covered l h (λ e. n (some_same e)));
-  } where
-    some_same : {a b : ℕ} → Some a ≡ Some b → b ≡ a
-    some_same e = cc
+    blocked = blocked_step F t top root shape c seen seen' i imp r.blocked grows covered;
+  }
 
   -- where i is not marked an open place is left below it
   pub left_off : flag seen i ≡ false → 0 < open_count t seen top i

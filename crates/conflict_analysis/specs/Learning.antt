@@ -1,12 +1,21 @@
 -- What a conflict teaches.
 use Rattle.std.specs.List.{list_any, range_with_len}
-use Rattle.std.specs.Prelude.{◌≡◌, ◌≢◌, ◌<◌, ◌≤◌, ◌+◌, ◌==◌, ◌⊎◌, ◌^◌, min, ℕ, true, List, Option, Some, unwrap_or, count_by}
+use Rattle.std.specs.Prelude.{◌≡◌, ◌≢◌, ◌<◌, ◌≤◌, ◌+◌, ◌==◌, ◌⊎◌, ◌^◌, min, ℕ, Bool, true, List, Option, Some, unwrap_or, count_by}
 use Rattle.sat_terms.specs.Literal.{has, var_of}
+use Rattle.clause_store.specs.Stored.{Stored, slot_lits}
 use Rattle.trail_state.specs.declared.trail.Step.{Step}
 use Rattle.trail_state.specs.Trail.{level_on}
 use Rattle.conflict_analysis.specs.Counting.{Counted, IsDue}
 use Rattle.conflict_analysis.specs.declared.analysis.AnalyzeStop.{AnalyzeStop}
 use Rattle.conflict_analysis.specs.declared.analysis.AnalyzeStop.TheVariants.{Conflicts, Memory}
+
+-- the literal stands in a live clause
+abbrev pub stands_in : List (Option Stored) → ℕ → Bool
+stands_in s l = list_any (λ x. has (slot_lits x) l) s
+
+-- each literal of the list does
+abbrev pub AllStandIn : List (Option Stored) → List ℕ → Type 0
+AllStandIn s c = (l : ℕ) → has c l ≡ true → stands_in s l ≡ true
 
 -- the level of a literal, 0 where it has no value
 abbrev pub lit_level : List Step → ℕ → ℕ
@@ -16,8 +25,8 @@ lit_level t l = unwrap_or (level_on t (var_of l)) 0
 abbrev pub Reaches : List Step → ℕ → List ℕ → Type 0
 Reaches t top c = (l : ℕ) × (has c l ≡ true) × (lit_level t l ≡ top)
 
--- Of the clause's literals this one alone has the current level, and `back` is the highest level of the others, 0 if there
--- is none.
+-- Of the clause's literals this one alone has the current level, and `back` is the highest level of
+-- the others, 0 if there is none.
 pub record IsAsserting (t : List Step) (top : ℕ) (c : List ℕ) (l back : ℕ) : Type 0 where
   pub holds : has c l ≡ true
   pub at_top : lit_level t l ≡ top
@@ -31,14 +40,19 @@ pub record Owes (owed : Option ℕ) (t : List Step) (top : ℕ) (c : List ℕ) (
   pub is : owed ≡ Some lit
   pub asserting : IsAsserting t top c lit back
 
+-- whether one of the clause's literals has a level
+abbrev pub has_level : List Step → List ℕ → ℕ → Bool
+has_level t c n = list_any (λ l. lit_level t l == n) c
+
 -- the number of levels of a clause's literals
 abbrev pub glue_of : List Step → ℕ → List ℕ → ℕ
-glue_of t top c = count_by (λ v. list_any (λ l. lit_level t l == v) c) (range_with_len 0 (top + 1))
+glue_of t top c = count_by (has_level t c) (range_with_len 0 (top + 1))
 
 -- a conflict was counted, which the budget allowed
 pub record Rises (old new : Counted) : Type 0 where
   pub allowed : IsDue old.count old.budget → ⊥
   pub count : new.count ≡ min (old.count + 1) (2 ^ 62)
+  pub total : new.total ≡ min (old.total + 1) (2 ^ 62)
   pub budget : new.budget ≡ old.budget
   pub unspent : new.is_spent ≡ old.is_spent
 

@@ -1,29 +1,39 @@
 //! Learning from a conflict.
-ghost use Rattle.std.specs.Prelude.{◌≡◌, ◌<◌, OnOk, IfOk, IfErr, IsSome, false, None};
+//!
+//! A conflict is a stored clause that is false on the trail. Why did it come? Its literals are
+//! false since others were implied, and in the end since some were decided. The analysis follows
+//! reasons back to a clause that is false here too, follows from the stored clauses, and has one
+//! literal alone of the current level (walk.rt). So on the way back to the highest of its other
+//! levels it becomes unit, and asserts that literal: the search will not come to this conflict
+//! again. The tally owes the asserting literal until it is on the trail.
+//!
+//! The clause lies in the scratch, as do the literals that were met: nothing is copied out. Its
+//! glue, the number of its levels, says how much it is worth (levels.rt).
+ghost use Rattle.std.specs.Prelude.{◌≡◌, ◌<◌, OnOk, IfOk, IfErr, IsSome, false, None, length};
 ghost use Rattle.sat_terms.specs.Normal.{IsNormal};
-ghost use Rattle.redundancy.specs.Redundancy.{Implies};
+ghost use Rattle.sat_terms.specs.Truth.{Implies};
 ghost use Rattle.clause_store.specs.Stored.{slot, slot_lits, StoreTrue};
 ghost use Rattle.trail_state.specs.Clauses.{FalseOn};
 ghost use Rattle.rooted_trails.specs.Rooted.{Rooted};
-ghost use Rattle.conflict_analysis.specs.Learning.{Reaches, IsAsserting, Owes, Rises, Stops, glue_of};
+ghost use Rattle.conflict_analysis.specs.Learning.{AllStandIn, Reaches, IsAsserting, Owes, Rises, Stops, glue_of};
+ghost use Rattle.conflict_analysis.specs.Walking.{IsResolving};
 
-use crate::levels::{glue, highest};
-use crate::resolvent::Resolvent;
+use crate::levels::highest;
+use crate::scratch::Scratch;
 use crate::tally::Tally;
 use clause_store::store::Store;
-use normal_form::forms::rise;
-use sat_model::lists::{ClauseId, Lits};
+use sat_model::lists::ClauseId;
 use sat_model::literal::Lit;
 use sat_model::memory::Memory;
-use std::alloc::Global;
 use trail_state::trail::Trail;
 
-/// What a conflict teaches: a clause, the highest level of its literals but for the one of the current level, 0 if there is
-/// no other, and the number of levels of its literals.
-#[derive(Drop)]
+/// What is said of a learned clause, which lies in the scratch.
+#[derive(Clone, Copy, Debug, PartialEq, Eq)]
 pub struct Learned {
-    pub lits: Lits,
+    /// The highest level of its literals but for the one of the current level, 0 if there is no
+    /// other.
     pub back_level: u32,
+    /// The number of levels of its literals.
     pub glue: u32,
 }
 
@@ -37,21 +47,26 @@ pub enum AnalyzeStop {
 }
 
 // A learned clause, and its literal of the current level.
-#[derive(Drop)]
+#[derive(Clone, Copy)]
 struct Lesson {
     learned: Learned,
     owed: Lit,
 }
 
-/// Learns from a clause of the store that is false on the trail, where one of its literals has the current level, and counts
-/// the conflict. The clause comes from the first unique implication point (Zhang, Madigan, Moskewicz, Malik, ICCAD 2001). It
-/// is false, follows from the clauses of the store, and has one literal of the current level, which the tally owes then. The
-/// tally must be unspent and owe nothing. `Conflicts` comes exactly where its count is its budget and below 2^62, and it is
-/// spent then. After `Memory` it is as before.
+/// Learns from a clause of the store that is false on the trail, where one of its literals has the
+/// current level, and counts the conflict. The clause comes from the first unique implication point
+/// (Moskewicz and others 2001), and lies in the scratch. It is normal, false, follows from the
+/// clauses of the store, each of its literals stands in one of these, and it has one literal of the
+/// current level, which the tally owes then. The literals that were met on the way are false, and
+/// lie in the scratch too.
+///
+/// The tally must be unspent and owe nothing. `Conflicts` comes exactly where its count is its
+/// budget and below 2^62, and it is spent then. After `Memory` the tally is as before, and the
+/// scratch has no clause that anything is said of.
 pub fn analyze(
-    alloc: Global,
     store: &Store,
     trail: &Trail,
+    scratch: &mut Scratch,
     tally: &mut Tally,
     conflict: ClauseId,
 ) -> Result<Learned, AnalyzeStop>
@@ -62,11 +77,16 @@ pub fn analyze(
     requires is_false { FalseOn trail.now.steps (slot_lits (slot store.now conflict)) }
     requires above { 0 < trail.now.level }
     requires reaches { Reaches trail.now.steps trail.now.level (slot_lits (slot store.now conflict)) }
-    ensures normal { IfOk result (λ r. IsNormal r.lits) }
-    ensures is_false { IfOk result (λ r. FalseOn trail.now.steps r.lits) }
-    ensures implied { IfOk result (λ r. Implies (StoreTrue store.now) r.lits) }
-    ensures owes { IfOk result (λ r. Owes tally.new.owes trail.now.steps trail.now.level r.lits r.back_level) }
-    ensures glue { IfOk result (λ r. r.glue ≡ glue_of trail.now.steps trail.now.level r.lits) }
+    // The learned clause.
+    ensures normal { OnOk result (IsNormal scratch.new.lits) }
+    ensures is_false { OnOk result (FalseOn trail.now.steps scratch.new.lits) }
+    ensures implied { OnOk result (Implies (StoreTrue store.now) scratch.new.lits) }
+    ensures from { OnOk result (AllStandIn store.now scratch.new.lits) }
+    ensures owes { IfOk result (λ r. Owes tally.new.owes trail.now.steps trail.now.level scratch.new.lits r.back_level) }
+    ensures glue { IfOk result (λ r. r.glue ≡ glue_of trail.now.steps trail.now.level scratch.new.lits) }
+    // The literals that were met.
+    ensures met { OnOk result (FalseOn trail.now.steps scratch.new.met) }
+    // The count.
     ensures counts { OnOk result (Rises tally.old tally.new) }
     ensures stops { IfErr result (λ e. Stops e tally.old tally.new) }
 {
@@ -75,45 +95,64 @@ pub fn analyze(
         tally.spend();
         return Err(AnalyzeStop::Conflicts(count));
     }
-    match learn(alloc, store, trail, conflict) {
+    match learn(store, trail, scratch, conflict) {
         Ok(lesson) => {
-            let Lesson { learned, owed } = lesson;
-            tally.rise(owed);
-            Ok(learned)
+            tally.rise(lesson.owed);
+            Ok(lesson.learned)
         }
         Err(_) => Err(AnalyzeStop::Memory),
     }
 }
 
-// The clause that a conflict teaches.
-fn learn(alloc: Global, store: &Store, trail: &Trail, conflict: ClauseId) -> Result<Lesson, Memory>
+// Marks the literals of a false clause in a scratch that was cleared.
+fn begin(
+    store: &Store,
+    trail: &Trail,
+    scratch: &mut Scratch,
+    conflict: ClauseId,
+) -> Result<(), Memory>
     requires live { IsSome (slot store.now conflict) }
     requires rooted { Rooted store.now trail.now.steps }
     requires is_false { FalseOn trail.now.steps (slot_lits (slot store.now conflict)) }
     requires above { 0 < trail.now.level }
     requires reaches { Reaches trail.now.steps trail.now.level (slot_lits (slot store.now conflict)) }
-    ensures normal { IfOk result (λ r. IsNormal r.learned.lits) }
-    ensures is_false { IfOk result (λ r. FalseOn trail.now.steps r.learned.lits) }
-    ensures implied { IfOk result (λ r. Implies (StoreTrue store.now) r.learned.lits) }
-    ensures asserting { IfOk result (λ r. IsAsserting trail.now.steps trail.now.level r.learned.lits r.owed r.learned.back_level) }
-    ensures glue { IfOk result (λ r. r.learned.glue ≡ glue_of trail.now.steps trail.now.level r.learned.lits) }
+    ensures { OnOk result (IsResolving store.now trail.now (length trail.now.steps) scratch.new) }
 {
-    trail.has_shape();
+    trail.law_shape();
+    scratch.clear();
+    scratch.reach(trail.declared() as usize + 1)?;
     let len = trail.lits().len();
-    let mut resolvent = Resolvent::new(alloc, len)?;
-    resolvent.mark_all(trail, store.get(conflict), &None, len)?;
-    let at = resolvent.find_uip(store, trail)?;
-    let mut lits = resolvent.lower;
-    let back_level = highest(trail, &lits);
+    scratch.mark_all(trail, store.get(conflict), len)?;
+    Ok(())
+}
+
+// The clause that a conflict teaches.
+fn learn(
+    store: &Store,
+    trail: &Trail,
+    scratch: &mut Scratch,
+    conflict: ClauseId,
+) -> Result<Lesson, Memory>
+    requires live { IsSome (slot store.now conflict) }
+    requires rooted { Rooted store.now trail.now.steps }
+    requires is_false { FalseOn trail.now.steps (slot_lits (slot store.now conflict)) }
+    requires above { 0 < trail.now.level }
+    requires reaches { Reaches trail.now.steps trail.now.level (slot_lits (slot store.now conflict)) }
+    ensures normal { OnOk result (IsNormal scratch.new.lits) }
+    ensures is_false { OnOk result (FalseOn trail.now.steps scratch.new.lits) }
+    ensures implied { OnOk result (Implies (StoreTrue store.now) scratch.new.lits) }
+    ensures from { OnOk result (AllStandIn store.now scratch.new.lits) }
+    ensures asserting { IfOk result (λ r. IsAsserting trail.now.steps trail.now.level scratch.new.lits r.owed r.learned.back_level) }
+    ensures glue { IfOk result (λ r. r.learned.glue ≡ glue_of trail.now.steps trail.now.level scratch.new.lits) }
+    ensures met { OnOk result (FalseOn trail.now.steps scratch.new.met) }
+{
+    trail.law_shape();
+    begin(store, trail, scratch, conflict)?;
+    let at = scratch.find_uip(store, trail)?;
     let owed = trail.lits()[at].neg();
-    lits.push(owed)?;
-    rise(&mut lits)?;
-    let glue = glue(alloc, trail, lits.as_slice())?;
-    let lits = Lits::from_slice(alloc, lits.as_slice())?;
-    let learned = Learned {
-        lits,
-        back_level,
-        glue,
-    };
+    let back_level = highest(trail, scratch.learned());
+    scratch.finish(owed)?;
+    let glue = scratch.glue(trail);
+    let learned = Learned { back_level, glue };
     Ok(Lesson { learned, owed })
 }

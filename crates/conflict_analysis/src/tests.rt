@@ -1,166 +1,269 @@
-//! The happy path of each call.
-ghost use Rattle.std.specs.Prelude.{◌≡◌, ◌≤◌, ◌<◌, ◌∷◌, [], None, IsTrue, IsSome, IfOk};
-ghost use Rattle.sat_terms.specs.Literal.{var_of, code_of};
+//! What conflicts teach, over small scenes and a wide one, with one scratch for all.
+ghost use Rattle.std.specs.Prelude.{◌≡◌, ◌<◌, ◌≤◌, true, false, None, IsSome};
 ghost use Rattle.clause_store.specs.Stored.{slot, slot_lits};
-ghost use Rattle.trail_state.specs.Trail.{value_on, no_step};
 ghost use Rattle.trail_state.specs.Clauses.{FalseOn};
-ghost use Rattle.trail_state.specs.declared.reason.Reason.TheVariants.{Decision, Clause};
-ghost use Rattle.rooted_trails.specs.Rooted.{Rooted};
 ghost use Rattle.conflict_analysis.specs.Learning.{Reaches};
 
 use crate::analysis::{AnalyzeStop, Learned, analyze};
+use crate::levels::highest;
+use crate::scratch::Scratch;
 use crate::tally::Tally;
 use clause_store::store::Store;
-use clause_store::stored::Keep;
+use rooted_scenes::scene::{Scene, is_false, lit, lits};
 use sat_model::lists::ClauseId;
 use sat_model::literal::Lit;
 use std::alloc::Global;
 use std::test::Fail;
-use trail_state::reason::Reason;
 use trail_state::trail::Trail;
 
-// A store and a trail on which one of its clauses is false.
+// A scene, and the clause that is false on its trail.
 #[derive(Drop)]
-struct Scene {
-    store: Store,
-    trail: Trail,
-    conflict: ClauseId,
+struct Conflict {
+    scene: Scene,
+    clause: ClauseId,
 }
 
-// A literal by its DIMACS number.
-fn lit(n: i32) -> Result<Lit, Fail>
-    ensures { IfOk result (λ l. l ≡ code_of n) }
-{
-    match Lit::new(n) {
-        Some(lit) => Ok(lit),
-        None => Err("no literal")?,
+// What a scene is made of and what its conflict teaches. The clauses; the literals of the trail, each with the number of its reason, or 0 where it was
+// decided; the number of the false clause; the learned clause, its back level, glue and asserting literal. Clauses are numbered from 1 on.
+#[derive(Drop)]
+struct Row<'a> {
+    clauses: &'a [&'a [i32]],
+    trail: &'a [(i32, usize)],
+    conflict: usize,
+    learned: &'a [i32],
+    back_level: u32,
+    glue: u32,
+    owed: i32,
+}
+
+// The clause of a number.
+fn named(ids: &[ClauseId], number: usize) -> Result<ClauseId, Fail> {
+    for (k, id) in ids.iter().enumerate() {
+        if k + 1 == number {
+            return Ok(*id);
+        }
     }
+    Err("no such clause")?
 }
 
-// Whether the variable of a literal is declared and has no value.
-fn is_open(trail: &Trail, lit: Lit) -> bool
-    ensures { IsTrue result → (var_of lit ≤ trail.now.declared) × (value_on trail.now.steps lit ≡ None) }
-{
-    lit.var().index() <= trail.declared() && trail.value(lit).is_none()
-}
-
-// The trail on which a literal is decided and another is implied by a clause.
-fn trail_of(alloc: Global, decided: Lit, implied: Lit, reason: ClauseId) -> Result<Trail, Fail>
-    ensures steps { IfOk result (λ t. t.steps ≡ record { lit = decided; level = 1; reason = Decision } ∷ record { lit = implied; level = 1; reason = Clause reason } ∷ []) }
-    ensures level { IfOk result (λ t. t.level ≡ 1) }
-{
-    let mut trail = Trail::new(alloc);
-    trail.declare(implied.var())?;
-    if !is_open(&trail, decided) {
-        Err("it has a value")?;
+// Puts a literal on the trail of a scene.
+fn put(scene: &mut Scene, ids: &[ClauseId], number: i32, reason: usize) -> Result<(), Fail> {
+    if reason == 0 {
+        return scene.decide(number);
     }
-    trail.decide(decided);
-    if !is_open(&trail, implied) {
-        Err("it has a value")?;
+    let id = named(ids, reason)?;
+    scene.imply(number, id)
+}
+
+// Makes the scene of a row.
+fn set_up(alloc: Global, row: &Row) -> Result<Conflict, Fail> {
+    let mut scene = Scene::new(alloc, 50)?;
+    let mut ids = Vec::new(alloc);
+    for clause in row.clauses {
+        ids.push(scene.add(clause)?)?;
     }
-    trail.assign(implied, Reason::Clause(reason));
-    Ok(trail)
+    for (number, reason) in row.trail {
+        put(&mut scene, ids.as_slice(), *number, *reason)?;
+    }
+    let clause = named(ids.as_slice(), row.conflict)?;
+    Ok(Conflict { scene, clause })
 }
 
-// The clauses `-1 2` and `-1 -2`, where 1 is decided and 2 is implied by the first.
-fn example(alloc: Global) -> Result<Scene, Fail>
-    ensures live { IfOk result (λ e. IsSome (slot e.store e.conflict)) }
-    ensures rooted { IfOk result (λ e. Rooted e.store e.trail.steps) }
-    ensures is_false { IfOk result (λ e. FalseOn e.trail.steps (slot_lits (slot e.store e.conflict))) }
-    ensures above { IfOk result (λ e. 0 < e.trail.level) }
-    ensures reaches { IfOk result (λ e. Reaches e.trail.steps e.trail.level (slot_lits (slot e.store e.conflict))) }
+// Whether one of the literals has the current level, and that is above the root.
+fn reaches(trail: &Trail, clause: &[Lit]) -> bool
+    ensures above { result ≡ true → 0 < trail.now.level }
+    ensures reaches { result ≡ true → Reaches trail.now.steps trail.now.level clause.now }
 {
-    let one = lit(1)?;
-    let not_one = lit(-1)?;
-    let two = lit(2)?;
-    let not_two = lit(-2)?;
-    let mut store = Store::new(alloc);
-    let first = store.add(&[not_one, two], Keep::Firm, 0)?;
-    let conflict = store.add(&[not_one, not_two], Keep::Firm, 0)?;
-    let trail = trail_of(alloc, one, two, first)?;
-    Ok(Scene {
-        store,
-        trail,
-        conflict,
-    })
+    let top = trail.level();
+    top > 0 && highest(trail, clause) == top
 }
 
-// What a conflict teaches, beside the answer where it is counted no more.
-fn learned_of(answer: Result<Learned, AnalyzeStop>) -> Result<Learned, Fail> {
-    Ok(answer?)
+// Whether a clause is false, and reaches the current level.
+fn is_conflict(store: &Store, trail: &Trail, id: ClauseId) -> bool
+    ensures live { result ≡ true → IsSome (slot store.now id) }
+    ensures is_false { result ≡ true → FalseOn trail.now.steps (slot_lits (slot store.now id)) }
+    ensures above { result ≡ true → 0 < trail.now.level }
+    ensures reaches { result ≡ true → Reaches trail.now.steps trail.now.level (slot_lits (slot store.now id)) }
+{
+    store.is_live(id) && is_false(trail, store.get(id)) && reaches(trail, store.get(id))
 }
+
+// Whether a tally can count a conflict.
+fn is_ready(tally: &Tally) -> bool
+    ensures fresh { result ≡ true → tally.now.is_spent ≡ false }
+    ensures settled { result ≡ true → tally.now.owes ≡ None }
+{
+    !tally.is_spent() && tally.owes().is_none()
+}
+
+// What a conflict teaches.
+fn learned_from(
+    made: &Conflict,
+    scratch: &mut Scratch,
+    tally: &mut Tally,
+) -> Result<Result<Learned, AnalyzeStop>, Fail> {
+    made.scene.law_rooted();
+    let store = made.scene.store();
+    let trail = made.scene.trail();
+    if is_ready(tally) && is_conflict(store, trail, made.clause) {
+        return Ok(analyze(store, trail, scratch, tally, made.clause));
+    }
+    Err("no conflict")?
+}
+
+// Whether a row's conflict teaches what the row says, and the tally counts it.
+fn teaches(
+    alloc: Global,
+    row: &Row,
+    scratch: &mut Scratch,
+    tally: &mut Tally,
+) -> Result<bool, Fail> {
+    let made = set_up(alloc, row)?;
+    tally.start(1);
+    let before = tally.total();
+    let learned = learned_from(&made, scratch, tally)??;
+    let clause = lits(alloc, row.learned)?;
+    let owed = lit(row.owed)?;
+    let taught = scratch.learned() == clause.as_slice()
+        && is_false(made.scene.trail(), scratch.met());
+    let valued = learned.back_level == row.back_level && learned.glue == row.glue;
+    let counted = tally.count() == 1 && tally.total() == before + 1 && tally.owes() == Some(owed);
+    Ok(taught && valued && counted)
+}
+
+// The decisions 1 to 45.
+const DECIDED: [(i32, usize); 45] = [
+    (1, 0),
+    (2, 0),
+    (3, 0),
+    (4, 0),
+    (5, 0),
+    (6, 0),
+    (7, 0),
+    (8, 0),
+    (9, 0),
+    (10, 0),
+    (11, 0),
+    (12, 0),
+    (13, 0),
+    (14, 0),
+    (15, 0),
+    (16, 0),
+    (17, 0),
+    (18, 0),
+    (19, 0),
+    (20, 0),
+    (21, 0),
+    (22, 0),
+    (23, 0),
+    (24, 0),
+    (25, 0),
+    (26, 0),
+    (27, 0),
+    (28, 0),
+    (29, 0),
+    (30, 0),
+    (31, 0),
+    (32, 0),
+    (33, 0),
+    (34, 0),
+    (35, 0),
+    (36, 0),
+    (37, 0),
+    (38, 0),
+    (39, 0),
+    (40, 0),
+    (41, 0),
+    (42, 0),
+    (43, 0),
+    (44, 0),
+    (45, 0),
+];
+
+// The clause of their negations.
+const WIDE: [i32; 45] = [
+    -1, -2, -3, -4, -5, -6, -7, -8, -9, -10, -11, -12, -13, -14, -15, -16, -17, -18, -19, -20, -21,
+    -22, -23, -24, -25, -26, -27, -28, -29, -30, -31, -32, -33, -34, -35, -36, -37, -38, -39, -40,
+    -41, -42, -43, -44, -45,
+];
 
 #[test]
 fn conflicts_teach(rt: HostRuntime) -> Result<(), Fail> {
-    let made = example(rt.alloc())?;
-    let not_one = lit(-1)?;
+    let mut scratch = Scratch::new(rt.alloc());
     let mut tally = Tally::new();
-    tally.start(1);
-    let answer = analyze(
-        rt.alloc(),
-        &made.store,
-        &made.trail,
-        &mut tally,
-        made.conflict,
-    );
-    let learned = learned_of(answer)?;
-    assert_eq!(rt; learned.lits.as_slice(), [not_one].as_slice());
-    assert_eq!(rt; (learned.back_level, learned.glue), (0, 1));
-    assert_eq!(rt; tally.count(), 1);
-    assert_eq!(rt; tally.owes(), Some(not_one));
-    assert!(rt; !tally.is_spent());
+    let rows = [
+        Row {
+            clauses: &[&[-1, 2], &[-1, -2]],
+            trail: &[(1, 0), (2, 1)],
+            conflict: 2,
+            learned: &[-1],
+            back_level: 0,
+            glue: 1,
+            owed: -1,
+        },
+        // Three levels: 4 is resolved on, and 3 is decided at the current level.
+        Row {
+            clauses: &[&[-1, -3, 4], &[-2, -3, -4]],
+            trail: &[(1, 0), (2, 0), (3, 0), (4, 1)],
+            conflict: 2,
+            learned: &[-1, -2, -3],
+            back_level: 2,
+            glue: 3,
+            owed: -3,
+        },
+        // The first point is 4, before the decision: 5 and 6 follow from it. A literal of the root is left out.
+        Row {
+            clauses: &[&[7], &[-3, 4], &[-4, 5], &[-1, -4, 6, -7], &[-5, -6]],
+            trail: &[(7, 1), (1, 0), (2, 0), (3, 0), (4, 2), (5, 3), (6, 4)],
+            conflict: 5,
+            learned: &[-1, -4],
+            back_level: 1,
+            glue: 2,
+            owed: -4,
+        },
+        Row {
+            clauses: &[&WIDE],
+            trail: &DECIDED,
+            conflict: 1,
+            learned: &WIDE,
+            back_level: 44,
+            glue: 45,
+            owed: -45,
+        },
+        Row {
+            clauses: &[&[-1, 2], &[-1, -2]],
+            trail: &[(1, 0), (2, 1)],
+            conflict: 2,
+            learned: &[-1],
+            back_level: 0,
+            glue: 1,
+            owed: -1,
+        },
+    ];
+    for row in &rows {
+        assert!(rt; teaches(rt.alloc(), row, &mut scratch, &mut tally)?);
+    }
+    assert_eq!(rt; tally.total(), 5);
     Ok(())
 }
 
 #[test]
 fn budgets_end(rt: HostRuntime) -> Result<(), Fail> {
-    let made = example(rt.alloc())?;
+    let row = Row {
+        clauses: &[&[-1, 2], &[-1, -2]],
+        trail: &[(1, 0), (2, 1)],
+        conflict: 2,
+        learned: &[-1],
+        back_level: 0,
+        glue: 1,
+        owed: -1,
+    };
+    let made = set_up(rt.alloc(), &row)?;
+    let mut scratch = Scratch::new(rt.alloc());
     let mut tally = Tally::new();
     tally.start(0);
-    let answer = analyze(
-        rt.alloc(),
-        &made.store,
-        &made.trail,
-        &mut tally,
-        made.conflict,
-    );
+    let answer = learned_from(&made, &mut scratch, &mut tally)?;
     assert!(rt; answer.err() == Some(AnalyzeStop::Conflicts(0)));
-    assert!(rt; tally.is_spent());
-    assert_eq!(rt; tally.owes(), None);
-    Ok(())
-}
-
-// Strikes off what a tally owes, where that is true on the trail.
-fn settle_if_true(tally: &mut Tally, trail: &Trail) {
-    if let Some(owed) = tally.owes() {
-        if trail.value(owed) == Some(true) {
-            tally.settle(trail);
-        }
-    }
-}
-
-#[test]
-fn debts_are_settled(rt: HostRuntime) -> Result<(), Fail> {
-    let mut made = example(rt.alloc())?;
-    let not_one = lit(-1)?;
-    let mut tally = Tally::new();
-    tally.start(2);
-    let answer = analyze(
-        rt.alloc(),
-        &made.store,
-        &made.trail,
-        &mut tally,
-        made.conflict,
-    );
-    let learned = learned_of(answer)?;
-    if learned.back_level < made.trail.level() {
-        made.trail.back_to(learned.back_level);
-    }
-    if is_open(&made.trail, not_one) {
-        made.trail.assign(not_one, Reason::Theory);
-    }
-    settle_if_true(&mut tally, &made.trail);
-    assert_eq!(rt; tally.owes(), None);
-    assert_eq!(rt; tally.count(), 1);
+    assert!(rt; tally.is_spent() && tally.owes().is_none() && tally.total() == 0);
     Ok(())
 }

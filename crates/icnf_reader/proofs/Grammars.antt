@@ -1,192 +1,211 @@
 -- The laws that tie what a reader gives turn by turn to the grammar over the whole list of words.
 use Rattle.std.proofs.Common.{◌≡◌, ◌∙◌, sym, ap, refl, subst, arith, ⊎_elim, inl, inr, ℕ, ◌+◌, ◌<◌, ◌≤◌, Bool, true, false, List, [], ◌∷◌, ◌++◌, length, Option, Some, None}
-use Rattle.std.specs.Prelude.{◌≢◌, ◌&&◌, codes, map, nat_lt, nat_le, if◌then◌else◌}
-use Rattle.std.specs.Str.{bytes_eq}
+use Rattle.std.specs.Prelude.{◌≢◌, ◌&&◌, map, nat_lt, nat_le, if◌then◌else◌}
 use Rattle.std.proofs.lemmas.Bool.{cases_lt}
 use Rattle.std.proofs.lemmas.List.{append-nil}
 use Rattle.io_edge.specs.Lines.{line_text, max_line, max_input}
 use Rattle.icnf_reader.specs.Words.{line_words}
-use Rattle.icnf_reader.specs.Numbers.{place_of}
 use Rattle.icnf_reader.specs.Tokens.{Token, Word, Fault, CutOff, tokens}
-use Rattle.icnf_reader.specs.Grammar.{Statement, IsPartial, IsBadWord, Ended, reason, reason_inside, end_reason, count_at, literal_count, max_literals}
-use Rattle.icnf_reader.specs.Script.{Ending, Whole, Bad, Stopped, texts, word_tokens, InOrder, IsFault, IsWhole, IsBad, IsStopped, Says, text_tokens, last_line_of}
-use Rattle.icnf_reader.specs.Outcomes.{Outcome, doing, in_statement, follow, reads, nothing, at_end, start, statements_of}
+use Rattle.icnf_reader.specs.Grammar.{Statement, IsFew, IsBadWord, Ended, end_reason, max_literals}
+use Rattle.icnf_reader.specs.Script.{Ending, Whole, Bad, Stopped, texts, word_tokens, InOrder, HasOneTooMany, IsFault, IsWhole, IsBad, IsStopped, Says, text_tokens, last_line_of}
+use Rattle.icnf_reader.specs.Outcomes.{Point, Outcome, doing, follow, reads, nothing, at_end, start, statements_of, header_of, query_at_end, script_of}
 use Rattle.icnf_reader.specs.Laws.{IsOutcome, TextIsSaid, TextIsGiven, CutIsSaid, CutIsGiven}
+use Rattle.icnf_reader.specs.declared.item.Heads.{Heads}
+use Rattle.icnf_reader.specs.declared.item.HeadKind.{HeadKind}
+use Rattle.icnf_reader.specs.declared.item.Item.{Item}
 use Rattle.icnf_reader.specs.declared.item.Why.{Why}
-use Rattle.icnf_reader.specs.declared.item.Why.TheVariants.{HeaderExpected, TooManyLiterals, LineTooLong, InputTooLong}
-use Rattle.icnf_reader.specs.declared.item.Mode.{Mode}
-use Rattle.icnf_reader.specs.declared.item.Mode.TheVariants.{Start, Kind, Between, InClause, InQuery}
-use Rattle.icnf_reader.specs.declared.item.LitWord.{LitWord}
-use Rattle.icnf_reader.specs.declared.item.LitWord.TheVariants.{Zero, Literal, Large, Other}
-use Rattle.icnf_reader.specs.declared.item.Meaning.{Meaning}
-use Rattle.icnf_reader.specs.declared.item.Meaning.TheVariants.{Enters, Adds, Closes, Wrong}
-use Rattle.icnf_reader.proofs.Modes.{leads, modes, word_a, fit_leads, leads_fit, partial_somewhere, leads_partial, one_more}
-use Rattle.icnf_reader.proofs.Ranks.{rank, ranks}
-use Rattle.icnf_reader.proofs.Said.{said, after, put_items, run, after_mode, after_count, counts, added, follow_full, fit_says}
-use Rattle.icnf_reader.proofs.Ended.{ended_is, ended_once}
+use Rattle.icnf_reader.specs.declared.item.Why.TheVariants.{TooManyLiterals, LineTooLong, InputTooLong}
+use Rattle.icnf_reader.specs.declared.reader.Mode.{Mode}
+use Rattle.icnf_reader.specs.declared.reader.Mode.TheVariants.{Start, Kind, Vars, Clauses, Between, InClause, InQuery}
+use Rattle.icnf_reader.specs.declared.reader.Meaning.{Meaning}
+use Rattle.icnf_reader.specs.declared.reader.Meaning.TheVariants.{Enters, Adds, Closes, Heading, Wrong}
+use Rattle.icnf_reader.proofs.Modes.{leads, modes, ending_words, fit_leads, leads_fit, leads_ended, partial_somewhere, leads_partial, one_more}
+use Rattle.icnf_reader.proofs.Ranks.{wrong_reason, unfit_end}
+use Rattle.icnf_reader.proofs.Said.{said, after, put_items, run, after-append, after_mode, after_grows, moved_count, added, follow_full, fit_says, fit_count}
+use Rattle.icnf_reader.proofs.Ended.{IsBetween, mode_cases, statements_items, ended_is, ended_once}
 
 -- a word that leads nowhere is wrong
 none_wrong : (m : Mode) (mean : Meaning) → leads m mean ≡ None → (why : Why) × (mean ≡ Wrong why)
-none_wrong m (Enters k) e = cc
-none_wrong m (Adds l) e = cc
-none_wrong m Closes e = cc
+none_wrong m (Enters k) e = absurd (cc)
+none_wrong m (Adds l) e = absurd (cc)
+none_wrong m Closes e = absurd (cc)
+none_wrong m (Heading h) e = absurd (cc)
 none_wrong m (Wrong why) e = (why, refl)
 
-wrong_header : (w known : List ℕ) (good : Meaning) (why : Why) → ((y : Why) → good ≢ Wrong y) → (if bytes_eq w known then good else Wrong HeaderExpected) ≡ Wrong why → why ≡ HeaderExpected
-wrong_header w known good why not e = on (bytes_eq w known) e
-  where
-    on : (b : Bool) → (if b then good else Wrong HeaderExpected) ≡ Wrong why → why ≡ HeaderExpected
-    on true f = absurd (not why f)
-    on false f = cc
+-- how many literals words have so far
+abbrev count_of : Heads → List (List ℕ) → ℕ
+count_of heads ws = (after ws (start heads)).count
 
-wrong_inside : (x : LitWord) (why : Why) → in_statement x ≡ Wrong why → why ≡ reason_inside x
-wrong_inside Zero why e = cc
-wrong_inside (Literal l) why e = cc
-wrong_inside Large why e = cc
-wrong_inside Other why e = cc
+-- the words that end a text have no literal
+ending_count : (m : Mode) (lits : List ℕ) (n : ℕ) → (after (ending_words m) (record { mode = m; lits = lits; count = n })).count ≡ n
+ending_count (Start heads) lits n = refl
+ending_count (Kind heads) lits n = refl
+ending_count Vars lits n = refl
+ending_count (Clauses vars) lits n = refl
+ending_count (Between kind) lits n = refl
+ending_count (InClause kind) lits n = refl
+ending_count InQuery lits n = refl
 
--- behind the header a wrong word has its reason from its place
-wrong_deep : (m : Mode) (w : List ℕ) (why : Why) → rank m ≡ 2 → doing m w ≡ Wrong why → why ≡ reason_inside (place_of w)
-wrong_deep Start w why r e = absurd (omega arith)
-wrong_deep Kind w why r e = absurd (omega arith)
-wrong_deep Between w why r e = on (bytes_eq w word_a) e
-  where
-    on : (b : Bool) → (if b then Enters InQuery else in_statement (place_of w)) ≡ Wrong why → why ≡ reason_inside (place_of w)
-    on true f = cc
-    on false f = wrong_inside (place_of w) why f
-wrong_deep InClause w why r e = wrong_inside (place_of w) why e
-wrong_deep InQuery w why r e = wrong_inside (place_of w) why e
+ended_count : (m : Mode) (p : Point) → p.mode ≡ m → (after (ending_words m) p).count ≡ p.count
+ended_count m p is =
+    let P : Mode → Type 0 = λ k. (after (ending_words m) (record { mode = k; lits = p.lits; count = p.count })).count ≡ p.count in
+    subst P (sym is) (ending_count m p.lits p.count)
 
-wrong_first : (m : Mode) (w : List ℕ) (why : Why) → rank m < 2 → doing m w ≡ Wrong why → why ≡ HeaderExpected
-wrong_first Start w why r e = wrong_header w (codes "p") (Enters Kind) why (λ y f. cc) e
-wrong_first Kind w why r e = wrong_header w (codes "inccnf") Closes why (λ y f. cc) e
-wrong_first Between w why r e = absurd (omega arith)
-wrong_first InClause w why r e = absurd (omega arith)
-wrong_first InQuery w why r e = absurd (omega arith)
+-- words are few by their count
+is_few : (heads : Heads) (ws : List (List ℕ)) (m : Mode) → modes ws (Start heads) ≡ Some m → count_of heads ws ≤ max_literals → IsFew heads ws
+is_few heads ws m e few =
+    let f = leads_ended heads ws m e in
+    let a = fit_count heads (ws ++ ending_words m) f.0 f.1 f.2 in
+    let b = ap (λ (p : Point). p.count) (after-append ws (ending_words m) (start heads)) in
+    let d = ended_count m (after ws (start heads)) (after_mode ws (start heads) m e) in
+    record { more = ending_words m; header = f.0; script = f.1; fit = f.2; few = omega (arith, a, b, d) }
 
--- a wrong word has the reason of a bad one
-wrong_reason : (ws : List (List ℕ)) (m : Mode) (w : List ℕ) (why : Why) → modes ws Start ≡ Some m → doing m w ≡ Wrong why → why ≡ reason ws w
-wrong_reason [] m w why e is = wrong_first m w why (omega (arith, ranks [] Start m e)) is
-wrong_reason (a ∷ []) m w why e is = wrong_first m w why (omega (arith, ranks (a ∷ []) Start m e)) is
-wrong_reason (a ∷ b ∷ ws) m w why e is = wrong_deep m w why (omega (arith, ranks (a ∷ b ∷ ws) Start m e)) is
+few_is : (heads : Heads) (ws : List (List ℕ)) → IsFew heads ws → count_of heads ws ≤ max_literals
+few_is heads ws f =
+    let a = fit_count heads (ws ++ f.more) f.header f.script f.fit in
+    let b = ap (λ (p : Point). p.count) (after-append ws f.more (start heads)) in
+    let d = after_grows f.more (after ws (start heads)) in
+    omega (arith, a, b, d, f.few)
 
--- the end where words are not fit
-unfit_end : (ws : List (List ℕ)) (m : Mode) (last : ℕ) → modes ws Start ≡ Some m → m ≢ Between → at_end m last ≡ Bad last (end_reason ws)
-unfit_end [] Start last e n = refl
-unfit_end [] Kind last e n = cc
-unfit_end [] Between last e n = absurd (n refl)
-unfit_end [] InClause last e n = cc
-unfit_end [] InQuery last e n = cc
-unfit_end (w ∷ ws) Start last e n = absurd (omega (arith, ranks (w ∷ ws) Start Start e))
-unfit_end (w ∷ ws) Kind last e n = refl
-unfit_end (w ∷ ws) Between last e n = absurd (n refl)
-unfit_end (w ∷ ws) InClause last e n = refl
-unfit_end (w ∷ ws) InQuery last e n = refl
+few_somewhere : (heads : Heads) (ws : List (List ℕ)) → IsFew heads ws → (m : Mode) × (modes ws (Start heads) ≡ Some m)
+few_somewhere heads ws f = partial_somewhere heads ws (record { more = f.more; header = f.header; script = f.script; fit = f.fit })
 
-literal_count-append : (ws more : List (List ℕ)) → literal_count (ws ++ more) ≡ literal_count ws + literal_count more
-literal_count-append [] more = omega arith
-literal_count-append (w ∷ ws) more = omega (arith, literal_count-append ws more)
+-- one more word
+more_count : (heads : Heads) (ws : List (List ℕ)) (w : List ℕ) → count_of heads (ws ++ w ∷ []) ≡ count_of heads ws + added (doing (after ws (start heads)).mode w)
+more_count heads ws w = ap (λ (p : Point). p.count) (after-append ws (w ∷ []) (start heads)) ∙ moved_count (doing (after ws (start heads)).mode w) (after ws (start heads))
 
--- words that lead somewhere are in order
-in_order_is : (ws : List (List ℕ)) (m : Mode) → modes ws Start ≡ Some m → literal_count ws ≤ max_literals → InOrder ws (statements_of (said ws start))
-in_order_is ws m e few = record { partial = leads_partial ws m e; few = few; ended = ended_is ws m e }
+-- what comes of what stands behind words, where nothing is given there
+none_behind : (heads : Heads) (before : List (ℕ × List ℕ)) (m : Mode) (all ts : List Token) (last : ℕ) (end : Ending) → all ≡ word_tokens before ++ ts → modes (texts before) (Start heads) ≡ Some m
+    → count_of heads (texts before) ≤ max_literals → reads ts (after (texts before) (start heads)) last ≡ nothing end
+    → reads all (start heads) last ≡ record { items = said (texts before) (start heads); ending = end }
+none_behind heads before m all ts last end cut e few is =
+    ap (λ l. reads l (start heads) last) cut ∙ run before (start heads) m ts last e few ∙ ap (put_items (said (texts before) (start heads))) is
+    ∙ ap (λ (l : List Item). let o : Outcome = record { items = l; ending = end } in o) (append-nil (said (texts before) (start heads)))
 
--- What is read from the start: the words before, and then what stands behind them.
-from_start : (before : List (ℕ × List ℕ)) (m : Mode) (ts : List Token) (last : ℕ) → modes (texts before) Start ≡ Some m → literal_count (texts before) ≤ max_literals
-    → reads (word_tokens before ++ ts) start last ≡ put_items (said (texts before) start) (reads ts (after (texts before) start) last)
-from_start before m ts last e few = run before start m ts last e (omega arith)
-
--- what comes of what stands behind, where nothing is given there
-none_behind : (before : List (ℕ × List ℕ)) (m : Mode) (all ts : List Token) (last : ℕ) (end : Ending) → all ≡ word_tokens before ++ ts → modes (texts before) Start ≡ Some m → literal_count (texts before) ≤ max_literals
-    → reads ts (after (texts before) start) last ≡ nothing end → IsOutcome (reads all start last) (statements_of (said (texts before) start)) end
-none_behind before m all ts last end cut e few is =
-    let x = ap (λ l. reads l start last) cut ∙ from_start before m ts last e few ∙ ap (put_items (said (texts before) start)) is in
-    (ap (λ (o : Outcome). statements_of o.items) x ∙ ap statements_of (append-nil (said (texts before) start)), ap (λ (o : Outcome). o.ending) x)
-
--- the point behind words
-at_mode : (ws : List (List ℕ)) (m : Mode) → modes ws Start ≡ Some m → (after ws start).mode ≡ m
-at_mode ws m e = after_mode ws start m e
-
-at_count : (ws : List (List ℕ)) (m : Mode) → modes ws Start ≡ Some m → (after ws start).count ≡ literal_count ws
-at_count ws m e = omega (arith, after_count ws start m e)
+-- an outcome with its parts
+outcome_is : (o : Outcome) (is : List Item) (end : Ending) → o ≡ record { items = is; ending = end } → IsOutcome o (header_of is).vars (statements_of is ++ query_at_end end (header_of is).kind) end
+outcome_is o is end e = (ap (λ (x : Outcome). (header_of x.items).vars) e, ap script_of e, ap (λ (x : Outcome). x.ending) e)
 
 -- what comes of a word that is wrong, and of one that is a literal too many
-wrong_gives : (ws : List (List ℕ)) (m : Mode) (w : List ℕ) (n : ℕ) (ts : List Token) (last : ℕ) (why : Why) → modes ws Start ≡ Some m → doing m w ≡ Wrong why
-    → reads (Word n w ∷ ts) (after ws start) last ≡ nothing (Bad n why)
-wrong_gives ws m w n ts last why e is =
-    ap (λ mean. follow mean n (after ws start) (λ q. reads ts q last)) (ap (λ k. doing k w) (at_mode ws m e) ∙ is)
+wrong_gives : (heads : Heads) (ws : List (List ℕ)) (m : Mode) (w : List ℕ) (n : ℕ) (ts : List Token) (last : ℕ) (why : Why) → modes ws (Start heads) ≡ Some m → doing m w ≡ Wrong why
+    → reads (Word n w ∷ ts) (after ws (start heads)) last ≡ nothing (Bad n why)
+wrong_gives heads ws m w n ts last why e is =
+    ap (λ mean. follow mean n (after ws (start heads)) (λ q. reads ts q last)) (ap (λ k. doing k w) (after_mode ws (start heads) m e) ∙ is)
 
-full_gives : (ws : List (List ℕ)) (m : Mode) (w : List ℕ) (n : ℕ) (ts : List Token) (last : ℕ) (k : Mode) → modes ws Start ≡ Some m → leads m (doing m w) ≡ Some k → literal_count ws ≤ max_literals
-    → max_literals < literal_count (ws ++ w ∷ []) → reads (Word n w ∷ ts) (after ws start) last ≡ nothing (Bad n TooManyLiterals)
-full_gives ws m w n ts last k e is few full =
-    let p = after ws start in
-    let c = at_count ws m e in
-    let same : doing p.mode w ≡ doing m w = ap (λ j. doing j w) (at_mode ws m e) in
-    let more : literal_count (ws ++ w ∷ []) ≡ literal_count ws + (count_at (place_of w) + 0) = literal_count-append ws (w ∷ []) in
-    follow_full (doing p.mode w) n p (λ q. reads ts q last) (omega arith) (omega (arith, counts m w k is, ap added same))
+full_gives : (heads : Heads) (ws : List (List ℕ)) (w : List ℕ) (n : ℕ) (ts : List Token) (last : ℕ) → count_of heads ws ≤ max_literals
+    → max_literals < count_of heads (ws ++ w ∷ []) → reads (Word n w ∷ ts) (after ws (start heads)) last ≡ nothing (Bad n TooManyLiterals)
+full_gives heads ws w n ts last few full =
+    let p = after ws (start heads) in
+    follow_full (doing p.mode w) n p (λ q. reads ts q last) few (omega (arith, full, more_count heads ws w))
 
--- the same statements, where they ended among the words
-same_statements : (ws : List (List ℕ)) (m : Mode) (o : Outcome) (ss : List Statement) (end : Ending) → modes ws Start ≡ Some m → Ended ws ss
-    → IsOutcome o (statements_of (said ws start)) end → IsOutcome o ss end
-same_statements ws m o ss end e ended g = (g.0 ∙ ended_once ws (statements_of (said ws start)) ss (ended_is ws m e) ended, g.1)
-
-whole_given : (all : List Token) (last : ℕ) (ss : List Statement) → IsWhole all ss → IsOutcome (reads all start last) ss Whole
-whole_given all last ss s =
+whole_given : (heads : Heads) (all : List Token) (last vars : ℕ) (ss : List Statement) → IsWhole heads all vars ss → IsOutcome (reads all (start heads) last) vars ss Whole
+whole_given heads all last vars ss s =
     let ws = texts s.words in
-    let e = fit_leads ws ss s.fit in
-    let g = none_behind s.words Between all [] last Whole (s.are ∙ sym (append-nil (word_tokens s.words))) e s.few (ap (λ m. nothing (at_end m last)) (at_mode ws Between e)) in
-    (g.0 ∙ fit_says ws ss s.fit, g.1)
+    let e = fit_leads heads ws s.header s.body s.fit in
+    let few : count_of heads ws ≤ max_literals = omega (arith, fit_count heads ws s.header s.body s.fit, s.few) in
+    let items = (fit_says heads ws s.header s.body s.fit).0 in
+    let o = none_behind heads s.words (Between s.header.kind) all [] last Whole (s.are ∙ sym (append-nil (word_tokens s.words))) e few (ap (λ m. nothing (at_end m last)) (after_mode ws (start heads) (Between s.header.kind) e)) in
+    let g = outcome_is (reads all (start heads) last) (said ws (start heads)) Whole o in (
+      g.0 ∙ ap (λ x. (header_of x).vars) items ∙ sym s.vars_are,
+      g.1 ∙ ap (λ x. statements_of x ++ query_at_end Whole (header_of x).kind) items
+          ∙ ap (λ x. x ++ query_at_end Whole s.header.kind) (statements_items s.body) ∙ sym s.script,
+      g.2,
+    )
 
 -- what is wrong behind words in order is given
-fault_given : (before : List (ℕ × List ℕ)) (behind : List Token) (last n : ℕ) (why : Why) (m : Mode) → modes (texts before) Start ≡ Some m → literal_count (texts before) ≤ max_literals
-    → IsFault (texts before) behind last n why → reads behind (after (texts before) start) last ≡ nothing (Bad n why)
-fault_given before [] last n why m e few f =
-    let not : m ≢ Between = λ is. let x = leads_fit (texts before) (e ∙ ap Some is) in f.0 x.0 x.1 in
-    ap (λ k. nothing (at_end k last)) (at_mode (texts before) m e) ∙ ap nothing (unfit_end (texts before) m last e not)
+fault_given : (heads : Heads) (before : List (ℕ × List ℕ)) (behind : List Token) (last n : ℕ) (why : Why) (m : Mode) → modes (texts before) (Start heads) ≡ Some m → count_of heads (texts before) ≤ max_literals
+    → IsFault heads (texts before) behind last n why → reads behind (after (texts before) (start heads)) last ≡ nothing (Bad n why)
+fault_given heads before [] last n why m e few f =
+    let not : (k : HeadKind) → m ≢ Between k = λ k is. let x = leads_fit heads k (texts before) (e ∙ ap Some is) in f.0 x.0 x.1 x.2 in
+    ap (λ k. nothing (at_end k last)) (after_mode (texts before) (start heads) m e) ∙ ap nothing (unfit_end heads (texts before) m last e not)
     ∙ ap (λ k. nothing (Bad k (end_reason (texts before)))) (sym f.1) ∙ ap (λ y. nothing (Bad n y)) (sym f.2)
-fault_given before (Fault k y ∷ ts) last n why m e few f = ap (λ j. nothing (Bad j y)) (sym f.0) ∙ ap (λ z. nothing (Bad n z)) (sym f.1)
-fault_given before (CutOff ∷ ts) last n why m e few f = absurd f
-fault_given before (Word k w ∷ ts) last n why m e few f = ⊎_elim
-    (λ (b : IsBadWord (texts before) w why). bad (leads m (doing m w)) refl b)
-    (λ (t : IsPartial (texts before ++ w ∷ []) × (max_literals < literal_count (texts before ++ w ∷ [])) × (why ≡ TooManyLiterals)).
-    let o = partial_somewhere (texts before ++ w ∷ []) t.0 in
-    full_gives (texts before) m w k ts last o.0 e (sym (one_more (texts before) w m e) ∙ o.1) few t.1 ∙ ap (λ j. nothing (Bad j TooManyLiterals)) (sym f.0) ∙ ap (λ y. nothing (Bad n y)) (sym t.2))
+fault_given heads before (Fault k y ∷ ts) last n why m e few f = ap (λ j. nothing (Bad j y)) (sym f.0) ∙ ap (λ z. nothing (Bad n z)) (sym f.1)
+fault_given heads before (CutOff ∷ ts) last n why m e few f = absurd f
+fault_given heads before (Word k w ∷ ts) last n why m e few f = ⊎_elim
+    (λ (b : IsBadWord heads (texts before) w why). bad (leads m (doing m w)) refl b)
+    (λ (t : HasOneTooMany heads (texts before ++ w ∷ []) why).
+    let o = partial_somewhere heads (texts before ++ w ∷ []) t.partial in
+    let full : max_literals < count_of heads (texts before ++ w ∷ []) = ⊎_elim
+    (λ (x : max_literals < count_of heads (texts before ++ w ∷ [])). x)
+    (λ (x : count_of heads (texts before ++ w ∷ []) ≤ max_literals). absurd (t.many (is_few heads (texts before ++ w ∷ []) o.0 o.1 x)))
+    (cases_lt max_literals (count_of heads (texts before ++ w ∷ []))) in
+    full_gives heads (texts before) w k ts last few full ∙ ap (λ j. nothing (Bad j TooManyLiterals)) (sym f.0) ∙ ap (λ y. nothing (Bad n y)) (sym t.reason_is))
     f.1
   where
-    bad : (o : Option Mode) → leads m (doing m w) ≡ o → IsBadWord (texts before) w why → reads (Word k w ∷ ts) (after (texts before) start) last ≡ nothing (Bad n why)
-    bad (Some j) is b = absurd (b.bad (leads_partial (texts before ++ w ∷ []) j (one_more (texts before) w m e ∙ is)))
+    bad : (o : Option Mode) → leads m (doing m w) ≡ o → IsBadWord heads (texts before) w why → reads (Word k w ∷ ts) (after (texts before) (start heads)) last ≡ nothing (Bad n why)
+    bad (Some j) is b = absurd (b.bad (leads_partial heads (texts before ++ w ∷ []) j (one_more heads (texts before) w m e ∙ is)))
     bad None is b =
         let y = none_wrong m (doing m w) is in
-        let same : y.0 ≡ why = wrong_reason (texts before) m w y.0 e y.1 ∙ sym b.reason_is in
-        wrong_gives (texts before) m w k ts last y.0 e y.1 ∙ ap (λ j. nothing (Bad j y.0)) (sym f.0) ∙ ap (λ z. nothing (Bad n z)) same
+        let same : y.0 ≡ why = wrong_reason heads (texts before) m w y.0 e y.1 ∙ sym b.reason_is in
+        wrong_gives heads (texts before) m w k ts last y.0 e y.1 ∙ ap (λ j. nothing (Bad j y.0)) (sym f.0) ∙ ap (λ z. nothing (Bad n z)) same
 
-bad_given : (all : List Token) (last : ℕ) (ss : List Statement) (n : ℕ) (why : Why) → IsBad all last ss n why → IsOutcome (reads all start last) ss (Bad n why)
-bad_given all last ss n why s =
-    let ws = texts s.before in
-    let o = partial_somewhere ws s.in_order.partial in
-    same_statements ws o.0 (reads all start last) ss (Bad n why) o.1 s.in_order.ended
-    (none_behind s.before o.0 all s.behind last (Bad n why) s.cut o.1 s.in_order.few (fault_given s.before s.behind last n why o.0 o.1 s.in_order.few s.fault))
+-- the same variables and statements, where they ended among the words
+same_ended : (heads : Heads) (ws : List (List ℕ)) (m : Mode) (o : Outcome) (vars : ℕ) (ss : List Statement) (end : Ending) → modes ws (Start heads) ≡ Some m → Ended heads ws vars ss
+    → query_at_end end (header_of (said ws (start heads))).kind ≡ [] → o ≡ record { items = said ws (start heads); ending = end } → IsOutcome o vars ss end
+same_ended heads ws m o vars ss end e ended none is =
+    let g = outcome_is o (said ws (start heads)) end is in
+    let same = ended_once heads ws (header_of (said ws (start heads))).vars vars (statements_of (said ws (start heads))) ss (ended_is heads ws m e) ended in
+    (g.0 ∙ same.0, g.1 ∙ ap (λ q. statements_of (said ws (start heads)) ++ q) none ∙ append-nil (statements_of (said ws (start heads))) ∙ same.1, g.2)
 
-stopped_given : (all : List Token) (last : ℕ) (ss : List Statement) → IsStopped all ss → IsOutcome (reads all start last) ss Stopped
-stopped_given all last ss s =
+bad_given : (heads : Heads) (all : List Token) (last vars : ℕ) (ss : List Statement) (n : ℕ) (why : Why) → IsBad heads all last vars ss n why → IsOutcome (reads all (start heads) last) vars ss (Bad n why)
+bad_given heads all last vars ss n why s =
     let ws = texts s.before in
-    let o = partial_somewhere ws s.in_order.partial in
-    same_statements ws o.0 (reads all start last) ss Stopped o.1 s.in_order.ended
-    (none_behind s.before o.0 all (CutOff ∷ s.behind) last Stopped s.cut o.1 s.in_order.few refl)
+    let o = few_somewhere heads ws s.in_order.few in
+    let few = few_is heads ws s.in_order.few in
+    same_ended heads ws o.0 (reads all (start heads) last) vars ss (Bad n why) o.1 s.in_order.ended refl
+    (none_behind heads s.before o.0 all s.behind last (Bad n why) s.cut o.1 few (fault_given heads s.before s.behind last n why o.0 o.1 few s.fault))
+
+stopped_given : (heads : Heads) (all : List Token) (last vars : ℕ) (ss : List Statement) → IsStopped heads all vars ss → IsOutcome (reads all (start heads) last) vars ss Stopped
+stopped_given heads all last vars ss s =
+    let ws = texts s.before in
+    let o = few_somewhere heads ws s.in_order.few in
+    same_ended heads ws o.0 (reads all (start heads) last) vars ss Stopped o.1 s.in_order.ended refl
+    (none_behind heads s.before o.0 all (CutOff ∷ s.behind) last Stopped s.cut o.1 (few_is heads ws s.in_order.few) refl)
 
 -- what the tokens say is what is given
-given_is : (all : List Token) (last : ℕ) (ss : List Statement) (end : Ending) → Says all last ss end → IsOutcome (reads all start last) ss end
-given_is all last ss Whole s = whole_given all last ss s
-given_is all last ss (Bad n why) s = bad_given all last ss n why s
-given_is all last ss Stopped s = stopped_given all last ss s
+given_is : (heads : Heads) (all : List Token) (last vars : ℕ) (ss : List Statement) (end : Ending) → Says heads all last vars ss end → IsOutcome (reads all (start heads) last) vars ss end
+given_is heads all last vars ss Whole s = whole_given heads all last vars ss s
+given_is heads all last vars ss (Bad n why) s = bad_given heads all last vars ss n why s
+given_is heads all last vars ss Stopped s = stopped_given heads all last vars ss s
 
--- what is said of the tokens, where it is known what is given
-said_as : (all : List Token) (last : ℕ) (ss : List Statement) (end : Ending) → IsOutcome (reads all start last) ss end → Says all last ss end
-    → Says all last (statements_of (reads all start last).items) (reads all start last).ending
-said_as all last ss end g s =
-    let P : List Statement → Type 0 = λ x. Says all last x (reads all start last).ending in
-    let Q : Ending → Type 0 = λ x. Says all last ss x in
-    subst P (sym g.0) (subst Q (sym g.1) s)
+-- what is given is said of the tokens
+abbrev IsSaid : Heads → List Token → ℕ → Type 0
+IsSaid heads all last = Says heads all last (header_of (reads all (start heads) last).items).vars (script_of (reads all (start heads) last)) (reads all (start heads) last).ending
+
+-- what is said of the tokens is what is given, as it is known
+said_as : (heads : Heads) (all : List Token) (last vars : ℕ) (ss : List Statement) (end : Ending) → Says heads all last vars ss end → IsSaid heads all last
+said_as heads all last vars ss end s =
+    let g = given_is heads all last vars ss end s in
+    let o = reads all (start heads) last in
+    let N : ℕ → Type 0 = λ x. Says heads all last x (script_of o) o.ending in
+    let P : List Statement → Type 0 = λ x. Says heads all last vars x o.ending in
+    let Q : Ending → Type 0 = λ x. Says heads all last vars ss x in
+    subst N (sym g.0) (subst P (sym g.1) (subst Q (sym g.2) s))
+
+as_said : (heads : Heads) (all : List Token) (last vars : ℕ) (ss : List Statement) (end : Ending) → IsOutcome (reads all (start heads) last) vars ss end → IsSaid heads all last → Says heads all last vars ss end
+as_said heads all last vars ss end g s =
+    let o = reads all (start heads) last in
+    let N : ℕ → Type 0 = λ x. Says heads all last x (script_of o) o.ending in
+    let P : List Statement → Type 0 = λ x. Says heads all last vars x o.ending in
+    let Q : Ending → Type 0 = λ x. Says heads all last vars ss x in
+    subst Q g.2 (subst P g.1 (subst N g.0 s))
+
+-- words that lead somewhere are in order
+in_order_is : (heads : Heads) (ws : List (List ℕ)) (m : Mode) → modes ws (Start heads) ≡ Some m → count_of heads ws ≤ max_literals → InOrder heads ws (header_of (said ws (start heads))).vars (statements_of (said ws (start heads)))
+in_order_is heads ws m e few = record { few = is_few heads ws m e few; ended = ended_is heads ws m e }
+
+-- a fault behind words in order is said
+fault_said : (heads : Heads) (before : List (ℕ × List ℕ)) (behind all : List Token) (m : Mode) (last n : ℕ) (why : Why) → all ≡ word_tokens before ++ behind → modes (texts before) (Start heads) ≡ Some m
+    → count_of heads (texts before) ≤ max_literals → IsFault heads (texts before) behind last n why → IsSaid heads all last
+fault_said heads before behind all m last n why cut e few fault =
+    let s : IsBad heads all last (header_of (said (texts before) (start heads))).vars (statements_of (said (texts before) (start heads))) n why = record {
+      before = before;
+      behind = behind;
+      cut = cut;
+      in_order = in_order_is heads (texts before) m e few;
+      fault = fault;
+    } in
+    said_as heads all last _ _ (Bad n why) s
 
 -- one more word behind others
 more_texts : (before : List (ℕ × List ℕ)) (n : ℕ) (w : List ℕ) → texts (before ++ (n, w) ∷ []) ≡ texts before ++ w ∷ []
@@ -198,96 +217,80 @@ more_tokens [] n w ts = refl
 more_tokens (x ∷ before) n w ts = ap (λ ws. Word x.0 x.1 ∷ ws) (more_tokens before n w ts)
 
 -- where words end
-end_whole : (before : List (ℕ × List ℕ)) (all : List Token) (last : ℕ) → all ≡ word_tokens before ++ [] → modes (texts before) Start ≡ Some Between → literal_count (texts before) ≤ max_literals
-    → Says all last (statements_of (reads all start last).items) (reads all start last).ending
-end_whole before all last cut e few =
-    let f = leads_fit (texts before) e in
-    let s : IsWhole all f.0 = record { words = before; are = cut ∙ append-nil (word_tokens before); fit = f.1; few = few } in
-    said_as all last f.0 Whole (whole_given all last f.0 s) s
-
-end_open : (before : List (ℕ × List ℕ)) (m : Mode) (all : List Token) (last : ℕ) → m ≢ Between → all ≡ word_tokens before ++ [] → modes (texts before) Start ≡ Some m → literal_count (texts before) ≤ max_literals
-    → Says all last (statements_of (reads all start last).items) (reads all start last).ending
-end_open before m all last not cut e few =
-    let s : IsBad all last (statements_of (said (texts before) start)) last (end_reason (texts before)) = record {
-      before = before;
-      behind = [];
-      cut = cut;
-      in_order = in_order_is (texts before) m e few;
-      fault = ((λ ss fit. let x : Some m ≡ Some Between = sym e ∙ fit_leads (texts before) ss fit in let y : m ≡ Between = cc in not y), refl, refl);
+end_said : (heads : Heads) (before : List (ℕ × List ℕ)) (m : Mode) (all : List Token) (last : ℕ) → all ≡ word_tokens before ++ [] → modes (texts before) (Start heads) ≡ Some m
+    → count_of heads (texts before) ≤ max_literals → IsSaid heads all last
+end_said heads before m all last cut e few = ⊎_elim
+    (λ (is : IsBetween m).
+    let f = leads_fit heads is.0 (texts before) (e ∙ ap Some is.1) in
+    let s : IsWhole heads all f.0.vars (f.1 ++ query_at_end Whole f.0.kind) = record {
+      words = before;
+      are = cut ∙ append-nil (word_tokens before);
+      header = f.0;
+      body = f.1;
+      fit = f.2;
+      few = omega (arith, fit_count heads (texts before) f.0 f.1 f.2, few);
+      vars_are = refl;
+      script = refl;
     } in
-    said_as all last (statements_of (said (texts before) start)) (Bad last (end_reason (texts before))) (bad_given all last (statements_of (said (texts before) start)) last (end_reason (texts before)) s) s
-
-end_said : (before : List (ℕ × List ℕ)) (m : Mode) (all : List Token) (last : ℕ) → all ≡ word_tokens before ++ [] → modes (texts before) Start ≡ Some m → literal_count (texts before) ≤ max_literals
-    → Says all last (statements_of (reads all start last).items) (reads all start last).ending
-end_said before Start all last = end_open before Start all last (λ x. cc)
-end_said before Kind all last = end_open before Kind all last (λ x. cc)
-end_said before Between all last = end_whole before all last
-end_said before InClause all last = end_open before InClause all last (λ x. cc)
-end_said before InQuery all last = end_open before InQuery all last (λ x. cc)
+    said_as heads all last f.0.vars (f.1 ++ query_at_end Whole f.0.kind) Whole s)
+    (λ (not : (k : HeadKind) → m ≢ Between k).
+    fault_said heads before [] all m last last (end_reason (texts before)) cut e few
+    ((λ h ss fit. let x : Some m ≡ Some (Between h.kind) = sym e ∙ fit_leads heads (texts before) h ss fit in let y : m ≡ Between h.kind = cc in not h.kind y), refl, refl))
+    (mode_cases m)
 
 -- What is given of tokens that begin with words in order is said of them.
-said_from : (ts : List Token) (before : List (ℕ × List ℕ)) (m : Mode) (all : List Token) (last : ℕ) → all ≡ word_tokens before ++ ts
-    → modes (texts before) Start ≡ Some m → literal_count (texts before) ≤ max_literals → Says all last (statements_of (reads all start last).items) (reads all start last).ending
-said_from [] before m all last cut e few = end_said before m all last cut e few
-said_from (Fault k why ∷ ts) before m all last cut e few =
-    let s : IsBad all last (statements_of (said (texts before) start)) k why = record { before = before; behind = Fault k why ∷ ts; cut = cut; in_order = in_order_is (texts before) m e few; fault = (refl, refl) } in
-    said_as all last _ (Bad k why) (bad_given all last _ k why s) s
-said_from (CutOff ∷ ts) before m all last cut e few =
-    let s : IsStopped all (statements_of (said (texts before) start)) = record { before = before; behind = ts; cut = cut; in_order = in_order_is (texts before) m e few } in
-    said_as all last _ Stopped (stopped_given all last _ s) s
-said_from (Word n w ∷ ts) before m all last cut e few = go (leads m (doing m w)) refl (said_from ts (before ++ (n, w) ∷ []))
+said_from : (heads : Heads) (ts : List Token) (before : List (ℕ × List ℕ)) (m : Mode) (all : List Token) (last : ℕ) → all ≡ word_tokens before ++ ts
+    → modes (texts before) (Start heads) ≡ Some m → count_of heads (texts before) ≤ max_literals → IsSaid heads all last
+said_from heads [] before m all last cut e few = end_said heads before m all last cut e few
+said_from heads (Fault k why ∷ ts) before m all last cut e few = fault_said heads before (Fault k why ∷ ts) all m last k why cut e few (refl, refl)
+said_from heads (CutOff ∷ ts) before m all last cut e few =
+    let s : IsStopped heads all (header_of (said (texts before) (start heads))).vars (statements_of (said (texts before) (start heads))) = record {
+      before = before;
+      behind = ts;
+      cut = cut;
+      in_order = in_order_is heads (texts before) m e few;
+    } in
+    said_as heads all last _ _ Stopped s
+said_from heads (Word n w ∷ ts) before m all last cut e few = go (leads m (doing m w)) refl (said_from heads ts (before ++ (n, w) ∷ []))
   where
     go : (o : Option Mode) → leads m (doing m w) ≡ o
-        → ((k : Mode) (all : List Token) (last : ℕ) → all ≡ word_tokens (before ++ (n, w) ∷ []) ++ ts → modes (texts (before ++ (n, w) ∷ [])) Start ≡ Some k → literal_count (texts (before ++ (n, w) ∷ [])) ≤ max_literals
-        → Says all last (statements_of (reads all start last).items) (reads all start last).ending)
-        → Says all last (statements_of (reads all start last).items) (reads all start last).ending
+        → ((k : Mode) (all : List Token) (last : ℕ) → all ≡ word_tokens (before ++ (n, w) ∷ []) ++ ts → modes (texts (before ++ (n, w) ∷ [])) (Start heads) ≡ Some k
+        → count_of heads (texts (before ++ (n, w) ∷ [])) ≤ max_literals → IsSaid heads all last) → IsSaid heads all last
     go None is on =
         let y = none_wrong m (doing m w) is in
-        let s : IsBad all last (statements_of (said (texts before) start)) n y.0 = record {
-          before = before;
-          behind = Word n w ∷ ts;
-          cut = cut;
-          in_order = in_order_is (texts before) m e few;
-          fault = (
-            refl,
-            inl (record {
-              good = leads_partial (texts before) m e;
-              bad = λ p. let k = partial_somewhere (texts before ++ w ∷ []) p in let x : None ≡ Some k.0 = sym is ∙ sym (one_more (texts before) w m e) ∙ k.1 in cc;
-              reason_is = wrong_reason (texts before) m w y.0 e y.1;
-            }),
-          );
-        } in
-        said_as all last _ (Bad n y.0) (bad_given all last _ n y.0 s) s
+        fault_said heads before (Word n w ∷ ts) all m last n y.0 cut e few (
+          refl,
+          inl (record {
+            good = leads_partial heads (texts before) m e;
+            bad = λ p. let k = partial_somewhere heads (texts before ++ w ∷ []) p in let x : None ≡ Some k.0 = sym is ∙ sym (one_more heads (texts before) w m e) ∙ k.1 in absurd (cc);
+            reason_is = wrong_reason heads (texts before) m w y.0 e y.1;
+          }),
+        )
     go (Some k) is on =
-        let next = one_more (texts before) w m e ∙ is in
+        let next = one_more heads (texts before) w m e ∙ is in
         ⊎_elim
-        (λ (full : max_literals < literal_count (texts before ++ w ∷ [])).
-        let s : IsBad all last (statements_of (said (texts before) start)) n TooManyLiterals = record {
-          before = before;
-          behind = Word n w ∷ ts;
-          cut = cut;
-          in_order = in_order_is (texts before) m e few;
-          fault = (refl, inr (leads_partial (texts before ++ w ∷ []) k next, full, refl));
-        } in
-        said_as all last _ (Bad n TooManyLiterals) (bad_given all last _ n TooManyLiterals s) s)
-        (λ (room : literal_count (texts before ++ w ∷ []) ≤ max_literals).
+        (λ (full : max_literals < count_of heads (texts before ++ w ∷ [])).
+        fault_said heads before (Word n w ∷ ts) all m last n TooManyLiterals cut e few (
+          refl,
+          inr (record {
+            partial = leads_partial heads (texts before ++ w ∷ []) k next;
+            many = λ f. let x = few_is heads (texts before ++ w ∷ []) f in omega (arith, x, full);
+            reason_is = refl;
+          }),
+        ))
+        (λ (room : count_of heads (texts before ++ w ∷ []) ≤ max_literals).
         let same = more_texts before n w in
-        on k all last (cut ∙ more_tokens before n w ts) (ap (λ x. modes x Start) same ∙ next) (omega (arith, ap literal_count same)))
-        (cases_lt max_literals (literal_count (texts before ++ w ∷ [])))
+        on k all last (cut ∙ more_tokens before n w ts) (ap (λ x. modes x (Start heads)) same ∙ next) (omega (arith, ap (count_of heads) same, room)))
+        (cases_lt max_literals (count_of heads (texts before ++ w ∷ [])))
 
-said_is : (all : List Token) (last : ℕ) → Says all last (statements_of (reads all start last).items) (reads all start last).ending
-said_is all last = said_from all [] Start all last refl refl (omega arith)
+said_is : (heads : Heads) (all : List Token) (last : ℕ) → IsSaid heads all last
+said_is heads all last = said_from heads all [] (Start heads) all last refl refl (omega arith)
 
-pub text_is_said : TextIsSaid
-text_is_said bytes ss end g =
-    let all = text_tokens bytes in
-    let last = last_line_of bytes in
-    let P : List Statement → Type 0 = λ x. Says all last x (reads all start last).ending in
-    let Q : Ending → Type 0 = λ x. Says all last ss x in
-    subst Q g.1 (subst P g.0 (said_is all last))
+pub law_text_is_said : TextIsSaid
+law_text_is_said heads bytes vars ss end g = as_said heads (text_tokens bytes) (last_line_of bytes) vars ss end g (said_is heads (text_tokens bytes) (last_line_of bytes))
 
-pub text_is_given : TextIsGiven
-text_is_given bytes ss end s = given_is (text_tokens bytes) (last_line_of bytes) ss end s
+pub law_text_is_given : TextIsGiven
+law_text_is_given heads bytes vars ss end s = given_is heads (text_tokens bytes) (last_line_of bytes) vars ss end s
 
 -- reading was not cut off within the tokens of lines
 abbrev NoCut : List Token → Type 0
@@ -325,16 +328,14 @@ before_cut (Word n w ∷ xs) (x ∷ ws) behind h e =
     let tail : xs ≡ word_tokens ws = before_cut xs ws behind h rest in
     cc
 
-pub cut_is_said : CutIsSaid
-cut_is_said pieces last ss g =
+pub law_cut_is_said : CutIsSaid
+law_cut_is_said heads pieces last vars ss g =
     let all = tokens 0 1 pieces ++ CutOff ∷ [] in
-    let P : List Statement → Type 0 = λ x. Says all last x (reads all start last).ending in
-    let Q : Ending → Type 0 = λ x. Says all last ss x in
-    let s : IsStopped all ss = subst Q g.1 (subst P g.0 (said_is all last)) in
+    let s : IsStopped heads all vars ss = as_said heads all last vars ss Stopped g (said_is heads all last) in
     record { words = s.before; are = before_cut (tokens 0 1 pieces) s.before s.behind (tokens_no_cut 0 1 pieces) s.cut; in_order = s.in_order }
 
-pub cut_is_given : CutIsGiven
-cut_is_given pieces last ss s = stopped_given (tokens 0 1 pieces ++ CutOff ∷ []) last ss (record {
+pub law_cut_is_given : CutIsGiven
+law_cut_is_given heads pieces last vars ss s = stopped_given heads (tokens 0 1 pieces ++ CutOff ∷ []) last vars ss (record {
   before = s.words;
   behind = [];
   cut = ap (λ ts. ts ++ CutOff ∷ []) s.are;

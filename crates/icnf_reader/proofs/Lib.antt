@@ -7,3 +7,4 @@ pub mod Ranks
 pub mod Said
 pub mod Ended
 pub mod Grammars
+pub mod Declared

@@ -6,18 +6,20 @@ use Rattle.icnf_reader.specs.Outcomes.{Point, Outcome, reads, doing, follow, put
 use Rattle.icnf_reader.specs.Script.{text_tokens}
 use Rattle.icnf_reader.specs.Grammar.{Clause, Query}
 use Rattle.io_edge.specs.Lines.{lines}
-use Rattle.icnf_reader.specs.declared.item.Mode.{Mode}
-use Rattle.icnf_reader.specs.declared.item.Mode.TheVariants.{Start, Kind, Between, InClause, InQuery}
+use Rattle.icnf_reader.specs.declared.reader.Mode.{Mode}
+use Rattle.icnf_reader.specs.declared.reader.Mode.TheVariants.{Start, Kind, Vars, Clauses, Between, InClause, InQuery}
+use Rattle.icnf_reader.specs.declared.item.Heads.{Heads}
 use Rattle.icnf_reader.specs.WordState.{WordState, GivesWord, GivesEnd, tokens_left, left_over, last_line, WordAnswers, TakesLines, BreaksOff}
 use Rattle.icnf_reader.specs.ReadState.{ReadState, outcome, Takes, ReadAnswers, SameOutcome, GivesItem, over, LeadsOver, StopsOver, ReadsOver, read_is_last, end_answer, at_start}
 use Rattle.icnf_reader.specs.declared.item.Item.{Item}
 use Rattle.icnf_reader.specs.declared.item.Item.TheVariants as item
 use Rattle.icnf_reader.specs.declared.words.WordGot.TheVariants as got
-use Rattle.icnf_reader.specs.declared.words.WordStop.TheVariants as stop
-use Rattle.icnf_reader.specs.Tokens.{CutOff}
-use Rattle.icnf_reader.proofs.Left.{told_both, told_more, told_left, told_refl, lines_then, not_ended}
+use Rattle.icnf_reader.specs.declared.item.Stop.TheVariants as stop
+use Rattle.icnf_reader.specs.Tokens.{CutOff, Fault}
+use Rattle.icnf_reader.specs.Script.{Bad}
+use Rattle.icnf_reader.proofs.Left.{told_both, told_more, told_left, told_then, told_refl, lines_then, not_ended}
 use Rattle.std.specs.Prelude.{[], ◌++◌, Bool, true, false, Result, IsErr}
-use Rattle.icnf_reader.specs.declared.reader.Stop.{Stop}
+use Rattle.icnf_reader.specs.declared.item.Stop.{Stop}
 use Rattle.std.proofs.Common.{append_assoc, arith, length, ◌+◌}
 use Rattle.std.specs.Prelude.{max}
 
@@ -127,6 +129,23 @@ pub turn_stops : (old now : ReadState) (mid : WordState) (left left' left'' : Op
 turn_stops old now mid left left' left'' stays told off = told_both (rest_of old.words.lines left) (rest_of now.words.lines left') (rest_of mid.lines left'')
     (λ x y z. stops old now x y z stays) told off
 
+-- a turn that goes wrong at a line
+pub stop_answers : (old now new : ReadState) (mid : WordState) (left left' left'' : Option (List ℕ)) (s : Stop) → WhereTold (rest_of old.words.lines left) (rest_of now.words.lines left') (SameOutcome old now)
+    → WordAnswers now.words mid left' left'' (Err s) → ReadAnswers old new left left'' (Err s)
+stop_answers old now new mid left left' left'' (stop.Bad n why) told bad =
+    told_then {P = SameOutcome old now} {Q = λ rest. tokens_left now.words rest ≡ Fault n why ∷ []} {R = λ rest. outcome old rest ≡ nothing (Bad n why)} (rest_of old.words.lines left) (rest_of now.words.lines left')
+    (λ x y p q. p ∙ ap (λ ts. reads ts now.point (last_line now.words y)) q) told bad
+stop_answers old now new mid left left' left'' stop.ReadFault told bad = tt
+stop_answers old now new mid left left' left'' stop.Memory told bad = tt
+
+pub stop_over : (old now new : ReadState) (mid : WordState) (left left' left'' : Option (List ℕ)) (s : Stop) → (old.words.lines.ended ≡ true → now.words.lines.ended ≡ true) → new.words ≡ mid
+    → WhereTold (rest_of old.words.lines left) (rest_of now.words.lines left') (LeadsOver old now (λ o. o)) → WordAnswers now.words mid left' left'' (Err s) → ReadsOver old new left left'' (Err s)
+stop_over old now new mid left left' left'' (stop.Bad n why) stays same told off = tt
+stop_over old now new mid left left' left'' stop.ReadFault stays same told off =
+    let P : WordState → Type 0 = λ w. WhereTold (rest_of old.words.lines left) (rest_of w.lines left'') (StopsOver old) in
+    subst P (sym same) (turn_stops old now mid left left' left'' stays told off)
+stop_over old now new mid left left' left'' stop.Memory stays same told off = tt
+
 -- no line was taken yet
 pub leads_none : (s : ReadState) (left : Option (List ℕ)) → WhereTold (rest_of s.words.lines left) (rest_of s.words.lines left) (LeadsOver s s (λ o. o))
 leads_none s left = told_refl (LeadsOver s s (λ o. o)) (rest_of s.words.lines left) (λ x. record { pieces = []; taken = record { bytes = refl; whatever = λ e more. refl }; leads = λ others tail last. refl })
@@ -164,10 +183,12 @@ end_item old now last x y z same g = (
 end_said : (m : Mode) (old new : ReadState) (last : ℕ) (left left' : Option (List ℕ))
     → WhereTold (rest_of old.words.lines left) (rest_of new.words.lines left') (λ x z. (outcome old x ≡ nothing (at_end m last)) × (z ≡ []))
     → ReadAnswers old new left left' (end_answer m last)
-end_said Start old new last left left' a = told_left (rest_of old.words.lines left) (rest_of new.words.lines left') (λ x z p. p.0) a
-end_said Kind old new last left left' a = told_left (rest_of old.words.lines left) (rest_of new.words.lines left') (λ x z p. p.0) a
-end_said Between old new last left left' a = a
-end_said InClause old new last left left' a = told_left (rest_of old.words.lines left) (rest_of new.words.lines left') (λ x z p. p.0) a
+end_said (Start heads) old new last left left' a = told_left (rest_of old.words.lines left) (rest_of new.words.lines left') (λ x z p. p.0) a
+end_said (Kind heads) old new last left left' a = told_left (rest_of old.words.lines left) (rest_of new.words.lines left') (λ x z p. p.0) a
+end_said Vars old new last left left' a = told_left (rest_of old.words.lines left) (rest_of new.words.lines left') (λ x z p. p.0) a
+end_said (Clauses vars) old new last left left' a = told_left (rest_of old.words.lines left) (rest_of new.words.lines left') (λ x z p. p.0) a
+end_said (Between kind) old new last left left' a = a
+end_said (InClause kind) old new last left left' a = told_left (rest_of old.words.lines left) (rest_of new.words.lines left') (λ x z p. p.0) a
 end_said InQuery old new last left left' a = told_left (rest_of old.words.lines left) (rest_of new.words.lines left') (λ x z p. p.0) a
 
 pub end_told : (old now new : ReadState) (left left' left'' : Option (List ℕ)) (last : ℕ) (r : Result Item Stop)
@@ -179,8 +200,8 @@ end_told old now new left left' left'' last r told gone is =
     subst P (sym is) (end_said now.point.mode old new last left left'' (told_both {P = SameOutcome old now} {Q = GivesEnd now.words last} (rest_of old.words.lines left) (rest_of now.words.lines left') (rest_of new.words.lines left'') (end_item old now last) told gone))
 
 -- what a reader at its start is to give is what the text says
-pub outcome_at_start : (bytes : List ℕ) → outcome at_start bytes ≡ text_reads bytes
-outcome_at_start bytes = ap (λ n. reads (text_tokens bytes) start (max 1 n)) (zero_add (length (lines bytes)))
+pub outcome_at_start : (heads : Heads) (bytes : List ℕ) → outcome (at_start heads) bytes ≡ text_reads heads bytes
+outcome_at_start heads bytes = ap (λ n. reads (text_tokens bytes) (start heads) (max 1 n)) (zero_add (length (lines bytes)))
   where
     zero_add : (n : ℕ) → 0 + n ≡ n
     zero_add n = omega arith

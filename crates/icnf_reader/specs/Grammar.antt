@@ -1,9 +1,18 @@
--- The grammar of iCNF with clauses and queries, over the words of a whole text: the header `p inccnf`, and then statements.
--- A clause is literals and a zero. A query is `a`, literals and a zero.
-use Rattle.std.specs.Prelude.{◌≡◌, ◌≤◌, ◌⊎◌, ℕ, ◌+◌, List, [], ◌∷◌, ◌++◌, length, codes}
-use Rattle.icnf_reader.specs.Numbers.{place_of}
-use Rattle.icnf_reader.specs.declared.item.LitWord.{LitWord}
-use Rattle.icnf_reader.specs.declared.item.LitWord.TheVariants.{Zero, Literal, Large}
+-- The grammars of DIMACS CNF and iCNF with clauses and queries, over the words of a whole text: a header, and then statements.
+-- The header is `p cnf V C` or `p inccnf`. A clause is literals and a zero. A query is `a`, literals and a zero, and stands under
+-- `p inccnf` alone.
+use Rattle.std.specs.Prelude.{◌≡◌, ◌≤◌, ◌⊎◌, ℕ, ◌+◌, if◌then◌else◌, List, [], ◌∷◌, ◌++◌, length, codes}
+use Rattle.std.specs.Str.{bytes_eq}
+use Rattle.icnf_reader.specs.Numbers.{max_var, max_number, place_of, plain_place}
+use Rattle.icnf_reader.specs.declared.numbers.LitWord.{LitWord}
+use Rattle.icnf_reader.specs.declared.numbers.LitWord.TheVariants.{Zero, Literal, Large}
+use Rattle.icnf_reader.specs.declared.numbers.PlainWord.{PlainWord}
+use Rattle.icnf_reader.specs.declared.numbers.PlainWord.TheVariants as plain
+use Rattle.icnf_reader.specs.declared.item.Heads.{Heads}
+use Rattle.icnf_reader.specs.declared.item.Heads.TheVariants.{All}
+use Rattle.icnf_reader.specs.declared.item.HeadKind.{HeadKind}
+use Rattle.icnf_reader.specs.declared.item.HeadKind.TheVariants.{Cnf, Knf, Inc}
+use Rattle.icnf_reader.specs.declared.item.Header.{Header}
 use Rattle.icnf_reader.specs.declared.item.Why.{Why}
 use Rattle.icnf_reader.specs.declared.item.Why.TheVariants.{HeaderExpected, UnexpectedWord, OutOfRange, NotClosed}
 
@@ -12,45 +21,105 @@ pub data Statement : Type 0 where
   Clause : List ℕ → Statement
   Query : List ℕ → Statement
 
+-- the header of DIMACS, where V and C are numbers without a sign
+pub record IsCnfHeader (ws : List (List ℕ)) (h : Header) : Type 0 where
+  pub vars : List ℕ
+  pub clauses : List ℕ
+  pub are : ws ≡ codes "p" ∷ codes "cnf" ∷ vars ∷ clauses ∷ []
+  pub kind_is : h.kind ≡ Cnf
+  pub vars_are : plain_place max_var vars ≡ plain.Value h.vars
+  pub clauses_are : plain_place max_number clauses ≡ plain.Value h.clauses
+
+-- the header of iCNF, which declares no numbers
+abbrev pub inc_header : Header
+inc_header = record { kind = Inc; vars = 0; clauses = 0 }
+
+abbrev pub IsIncHeader : Heads → List (List ℕ) → Header → Type 0
+IsIncHeader heads ws h = (heads ≡ All) × (ws ≡ codes "p" ∷ codes "inccnf" ∷ []) × (h ≡ inc_header)
+
+-- the words of a header, where these headers are in the grammar
+abbrev pub IsHeader : Heads → List (List ℕ) → Header → Type 0
+IsHeader heads ws h = IsCnfHeader ws h ⊎ IsIncHeader heads ws h
+
 -- the words of literals, and then a zero
 abbrev pub AreLits : List (List ℕ) → List ℕ → Type 0
 AreLits [] ls = ⊥
 AreLits (w ∷ ws) [] = (place_of w ≡ Zero) × (ws ≡ [])
 AreLits (w ∷ ws) (l ∷ ls) = (place_of w ≡ Literal l) × AreLits ws ls
 
--- the words of a statement
-abbrev pub AreWordsOf : Statement → List (List ℕ) → Type 0
-AreWordsOf (Clause ls) ws = AreLits ws ls
-AreWordsOf (Query ls) ws = (rest : List (List ℕ)) × (ws ≡ codes "a" ∷ rest) × AreLits rest ls
+-- the words of a statement under a header of this kind
+abbrev pub AreWordsOf : HeadKind → Statement → List (List ℕ) → Type 0
+AreWordsOf kind (Clause ls) ws = AreLits ws ls
+AreWordsOf kind (Query ls) ws = (kind ≡ Inc) × (rest : List (List ℕ)) × (ws ≡ codes "a" ∷ rest) × AreLits rest ls
 
 -- the words of statements, one after another
-abbrev pub AreStatements : List (List ℕ) → List Statement → Type 0
-AreStatements ws [] = ws ≡ []
-AreStatements ws (s ∷ ss) = (front rest : List (List ℕ)) × (ws ≡ front ++ rest) × AreWordsOf s front × AreStatements rest ss
+abbrev pub AreStatements : HeadKind → List (List ℕ) → List Statement → Type 0
+AreStatements kind ws [] = ws ≡ []
+AreStatements kind ws (s ∷ ss) = (front rest : List (List ℕ)) × (ws ≡ front ++ rest) × AreWordsOf kind s front × AreStatements kind rest ss
 
 -- the words of a header, and then those of statements
-abbrev pub IsFit : List (List ℕ) → List Statement → Type 0
-IsFit ws ss = (body : List (List ℕ)) × (ws ≡ codes "p" ∷ codes "inccnf" ∷ body) × AreStatements body ss
+pub record IsFit (heads : Heads) (ws : List (List ℕ)) (h : Header) (ss : List Statement) : Type 0 where
+  pub front : List (List ℕ)
+  pub body : List (List ℕ)
+  pub cut : ws ≡ front ++ body
+  pub header : IsHeader heads front h
+  pub statements : AreStatements h.kind body ss
 
 -- a prefix of fit words
-abbrev pub IsPartial : List (List ℕ) → Type 0
-IsPartial ws = (more : List (List ℕ)) × (ss : List Statement) × IsFit (ws ++ more) ss
+pub record IsPartial (heads : Heads) (ws : List (List ℕ)) : Type 0 where
+  pub more : List (List ℕ)
+  pub header : Header
+  pub script : List Statement
+  pub fit : IsFit heads (ws ++ more) header script
+
+-- how many literals statements have
+abbrev pub lits_of_statement : Statement → List ℕ
+lits_of_statement (Clause ls) = ls
+lits_of_statement (Query ls) = ls
+
+abbrev pub literals_of : List Statement → ℕ
+literals_of [] = 0
+literals_of (s ∷ ss) = length (lits_of_statement s) + literals_of ss
+
+-- the greatest number of literals of a text, 2^27
+abbrev pub max_literals : ℕ
+max_literals = 134217728
+
+-- a prefix of fit words whose statements have not too many literals
+pub record IsFew (heads : Heads) (ws : List (List ℕ)) : Type 0 where
+  pub more : List (List ℕ)
+  pub header : Header
+  pub script : List Statement
+  pub fit : IsFit heads (ws ++ more) header script
+  pub few : literals_of script ≤ max_literals
 
 -- the reason of a word that stands in a literal's place but cannot go on
 abbrev pub reason_inside : LitWord → Why
 reason_inside Large = OutOfRange
 reason_inside place = UnexpectedWord
 
--- the reason of a bad word behind these: the first two are to be the header, and behind it each word stands where a literal may
+-- and of one that stands in the place of V or C
+abbrev pub reason_plain : PlainWord → Why
+reason_plain plain.Large = OutOfRange
+reason_plain place = UnexpectedWord
+
+-- the reason of a bad word behind these, which follow `p cnf`
+abbrev pub reason_behind_cnf : List (List ℕ) → List ℕ → Why
+reason_behind_cnf [] w = reason_plain (plain_place max_var w)
+reason_behind_cnf (v ∷ []) w = reason_plain (plain_place max_number w)
+reason_behind_cnf (v ∷ c ∷ ws) w = reason_inside (place_of w)
+
+-- the reason of a bad word behind these: the first two are to be `p` and a kind, and behind the header each word stands where a
+-- literal may
 abbrev pub reason : List (List ℕ) → List ℕ → Why
 reason [] w = HeaderExpected
 reason (p ∷ []) w = HeaderExpected
-reason (p ∷ kind ∷ ws) w = reason_inside (place_of w)
+reason (p ∷ kind ∷ ws) w = if bytes_eq kind (codes "cnf") then reason_behind_cnf ws w else reason_inside (place_of w)
 
 -- the first word that is bad: the words before it are partial, and with it they are not
-pub record IsBadWord (ws : List (List ℕ)) (w : List ℕ) (why : Why) : Type 0 where
-  pub good : IsPartial ws
-  pub bad : IsPartial (ws ++ w ∷ []) → ⊥
+pub record IsBadWord (heads : Heads) (ws : List (List ℕ)) (w : List ℕ) (why : Why) : Type 0 where
+  pub good : IsPartial heads ws
+  pub bad : IsPartial heads (ws ++ w ∷ []) → ⊥
   pub reason_is : why ≡ reason ws w
 
 -- the reason where words that are not fit have no other behind them
@@ -58,31 +127,25 @@ abbrev pub end_reason : List (List ℕ) → Why
 end_reason [] = HeaderExpected
 end_reason (w ∷ ws) = NotClosed
 
--- how many words are literals, those of all statements together; the words of the header are none
-abbrev pub count_at : LitWord → ℕ
-count_at (Literal l) = 1
-count_at place = 0
-
-abbrev pub literal_count : List (List ℕ) → ℕ
-literal_count [] = 0
-literal_count (w ∷ ws) = count_at (place_of w) + literal_count ws
-
--- the greatest number of literals of a text, 2^27
-abbrev pub max_literals : ℕ
-max_literals = 134217728
-
 -- a fit prefix of words, and no longer one is fit
-pub record LongestFit (ws : List (List ℕ)) (ss : List Statement) : Type 0 where
+pub record LongestFit (heads : Heads) (ws : List (List ℕ)) (h : Header) (ss : List Statement) : Type 0 where
   pub front : List (List ℕ)
   pub rest : List (List ℕ)
   pub cut : ws ≡ front ++ rest
-  pub fit : IsFit front ss
-  pub longest : (longer more : List (List ℕ)) (others : List Statement) → ws ≡ longer ++ more → IsFit longer others → length longer ≤ length front
+  pub fit : IsFit heads front h ss
+  pub longest : (longer more : List (List ℕ)) (header : Header) (others : List Statement) → ws ≡ longer ++ more → IsFit heads longer header others → length longer ≤ length front
 
 -- no prefix of words is fit
-abbrev pub NoneFit : List (List ℕ) → Type 0
-NoneFit ws = (front rest : List (List ℕ)) (ss : List Statement) → ws ≡ front ++ rest → IsFit front ss → ⊥
+abbrev pub NoneFit : Heads → List (List ℕ) → Type 0
+NoneFit heads ws = (front rest : List (List ℕ)) (h : Header) (ss : List Statement) → ws ≡ front ++ rest → IsFit heads front h ss → ⊥
 
--- the statements whose last word is among these words: those of the longest prefix that is fit, none if the header is not whole
-abbrev pub Ended : List (List ℕ) → List Statement → Type 0
-Ended ws ss = LongestFit ws ss ⊎ (NoneFit ws × (ss ≡ []))
+-- The statements whose last word is among these words, with the declared number of variables: those of the longest prefix that
+-- is fit, none if the header is not whole.
+abbrev pub Ended : Heads → List (List ℕ) → ℕ → List Statement → Type 0
+Ended heads ws vars ss = ((h : Header) × LongestFit heads ws h ss × (vars ≡ h.vars)) ⊎ (NoneFit heads ws × (ss ≡ []) × (vars ≡ 0))
+
+-- the query at the end of a whole text: under `p cnf` there is one, without assumptions
+abbrev pub last_query : HeadKind → List Statement
+last_query Cnf = Query [] ∷ []
+last_query Knf = Query [] ∷ []
+last_query Inc = []

@@ -1,13 +1,19 @@
 -- Number words: an optional - and decimal digits, as in DIMACS.
-use Rattle.std.specs.Prelude.{ℕ, ◌+◌, ◌-◌, ◌*◌, ◌==◌, ◌&&◌, nat_lt, nat_le, Bool, true, false, not, if◌then◌else◌, List, [], ◌∷◌}
+use Rattle.std.specs.Prelude.{◌≤◌, ℕ, ◌+◌, ◌-◌, ◌*◌, ◌==◌, ◌&&◌, nat_lt, nat_le, Bool, true, false, not, if◌then◌else◌, List, [], ◌∷◌}
 use Rattle.std.specs.List.{list_all}
 use Rattle.sat_terms.specs.Literal.{pos_lit, neg_lit}
-use Rattle.icnf_reader.specs.declared.item.LitWord.{LitWord}
-use Rattle.icnf_reader.specs.declared.item.LitWord.TheVariants.{Zero, Literal, Large, Other}
+use Rattle.icnf_reader.specs.declared.numbers.LitWord.{LitWord}
+use Rattle.icnf_reader.specs.declared.numbers.LitWord.TheVariants.{Zero, Literal, Large, Other}
+use Rattle.icnf_reader.specs.declared.numbers.PlainWord.{PlainWord}
+use Rattle.icnf_reader.specs.declared.numbers.PlainWord.TheVariants as plain
 
 -- the greatest variable, 2^22 - 1
 abbrev pub max_var : ℕ
 max_var = 4194303
+
+-- the greatest number of clauses that a header may declare, 2^62
+abbrev pub max_number : ℕ
+max_number = 4611686018427387904
 
 abbrev pub is_digit : ℕ → Bool
 is_digit b = nat_le 48 b && nat_le b 57
@@ -38,3 +44,13 @@ negative_place bs = if not (are_digits bs) then Other else if number_from 0 bs =
 abbrev pub place_of : List ℕ → LitWord
 place_of [] = Other
 place_of (b ∷ bs) = if b == 45 then negative_place bs else unsigned_place (b ∷ bs)
+
+-- what a word is in the place of a number without a sign, which is at most this
+abbrev pub plain_place : ℕ → List ℕ → PlainWord
+plain_place most bs = if not (are_digits bs) then plain.Other else if nat_lt most (number_from 0 bs) then plain.Large else plain.Value (number_from 0 bs)
+
+-- a number that is at most this, or no number
+abbrev pub IsAtMost : ℕ → PlainWord → Type 0
+IsAtMost most (plain.Value n) = n ≤ most
+IsAtMost most plain.Large = Unit {0}
+IsAtMost most plain.Other = Unit {0}

@@ -1,22 +1,27 @@
 -- What tokens say to one who reads them in order and keeps where in the grammar they stand. The laws of specs/Laws tie it to
 -- the grammar over the whole list of words.
-use Rattle.std.specs.Prelude.{ℕ, ◌+◌, nat_lt, if◌then◌else◌, List, [], ◌∷◌, ◌++◌, codes}
+use Rattle.std.specs.Prelude.{ℕ, ◌+◌, ◌&&◌, Bool, true, false, nat_lt, if◌then◌else◌, List, [], ◌∷◌, ◌++◌, codes}
 use Rattle.std.specs.Str.{bytes_eq}
 use Rattle.icnf_reader.specs.Tokens.{Token, Word, Fault, CutOff}
-use Rattle.icnf_reader.specs.Numbers.{place_of}
+use Rattle.icnf_reader.specs.Numbers.{max_var, max_number, place_of, plain_place}
+use Rattle.icnf_reader.specs.declared.numbers.PlainWord.{PlainWord}
+use Rattle.icnf_reader.specs.declared.numbers.PlainWord.TheVariants as plain
+use Rattle.icnf_reader.specs.declared.item.Heads.{Heads}
+use Rattle.icnf_reader.specs.declared.item.Heads.TheVariants.{All, CnfOnly}
+use Rattle.icnf_reader.specs.declared.item.HeadKind.{HeadKind}
 use Rattle.icnf_reader.specs.declared.item.Item.{Item}
 use Rattle.icnf_reader.specs.declared.item.Item.TheVariants as item
 use Rattle.icnf_reader.specs.declared.item.Header.{Header}
-use Rattle.icnf_reader.specs.declared.item.HeadKind.TheVariants.{Inc}
+use Rattle.icnf_reader.specs.declared.item.HeadKind.TheVariants.{Cnf, Knf, Inc}
 use Rattle.icnf_reader.specs.Script.{Ending, Whole, Bad, Stopped, text_tokens, last_line_of}
-use Rattle.icnf_reader.specs.Grammar.{Statement, Clause, Query, max_literals}
+use Rattle.icnf_reader.specs.Grammar.{Statement, Clause, Query, max_literals, inc_header, last_query}
 use Rattle.icnf_reader.specs.declared.item.Why.TheVariants.{HeaderExpected, UnexpectedWord, OutOfRange, NotClosed, TooManyLiterals}
-use Rattle.icnf_reader.specs.declared.item.Mode.{Mode}
-use Rattle.icnf_reader.specs.declared.item.LitWord.{LitWord}
-use Rattle.icnf_reader.specs.declared.item.LitWord.TheVariants.{Zero, Literal, Large, Other}
-use Rattle.icnf_reader.specs.declared.item.Meaning.{Meaning}
-use Rattle.icnf_reader.specs.declared.item.Meaning.TheVariants.{Enters, Adds, Closes, Wrong}
-use Rattle.icnf_reader.specs.declared.item.Mode.TheVariants.{Start, Kind, Between, InClause, InQuery}
+use Rattle.icnf_reader.specs.declared.reader.Mode.{Mode}
+use Rattle.icnf_reader.specs.declared.numbers.LitWord.{LitWord}
+use Rattle.icnf_reader.specs.declared.numbers.LitWord.TheVariants.{Zero, Literal, Large, Other}
+use Rattle.icnf_reader.specs.declared.reader.Meaning.{Meaning}
+use Rattle.icnf_reader.specs.declared.reader.Meaning.TheVariants.{Enters, Adds, Closes, Heading, Wrong}
+use Rattle.icnf_reader.specs.declared.reader.Mode.TheVariants.{Start, Kind, Vars, Clauses, Between, InClause, InQuery}
 
 -- the items, and how the text ends
 pub record Outcome : Type 0 where
@@ -36,29 +41,57 @@ in_statement (Literal l) = Adds l
 in_statement Large = Wrong OutOfRange
 in_statement Other = Wrong UnexpectedWord
 
+-- whether the header of iCNF is in the grammar
+abbrev pub allows_inc : Heads → Bool
+allows_inc All = true
+allows_inc CnfOnly = false
+
+-- a kind of header
+abbrev pub kind_place : Heads → List ℕ → Meaning
+kind_place heads w = if bytes_eq w (codes "cnf") then Enters Vars else if allows_inc heads && bytes_eq w (codes "inccnf") then Heading inc_header else Wrong HeaderExpected
+
+-- the declared number of variables
+abbrev pub vars_place : PlainWord → Meaning
+vars_place (plain.Value vars) = Enters (Clauses vars)
+vars_place plain.Large = Wrong OutOfRange
+vars_place plain.Other = Wrong UnexpectedWord
+
+-- the declared number of clauses, behind that of variables
+abbrev pub clauses_place : ℕ → PlainWord → Meaning
+clauses_place vars (plain.Value clauses) = Heading (record { kind = Cnf; vars = vars; clauses = clauses })
+clauses_place vars plain.Large = Wrong OutOfRange
+clauses_place vars plain.Other = Wrong UnexpectedWord
+
+-- whether a word begins a query, under a header of this kind
+abbrev pub begins_query : HeadKind → List ℕ → Bool
+begins_query Cnf w = false
+begins_query Knf w = false
+begins_query Inc w = bytes_eq w (codes "a")
+
 -- what a word does where one stands
 abbrev pub doing : Mode → List ℕ → Meaning
-doing Start w = if bytes_eq w (codes "p") then Enters Kind else Wrong HeaderExpected
-doing Kind w = if bytes_eq w (codes "inccnf") then Closes else Wrong HeaderExpected
-doing Between w = if bytes_eq w (codes "a") then Enters InQuery else in_statement (place_of w)
-doing InClause w = in_statement (place_of w)
+doing (Start heads) w = if bytes_eq w (codes "p") then Enters (Kind heads) else Wrong HeaderExpected
+doing (Kind heads) w = kind_place heads w
+doing Vars w = vars_place (plain_place max_var w)
+doing (Clauses vars) w = clauses_place vars (plain_place max_number w)
+doing (Between kind) w = if begins_query kind w then Enters InQuery else in_statement (place_of w)
+doing (InClause kind) w = in_statement (place_of w)
 doing InQuery w = in_statement (place_of w)
-
--- the header of iCNF
-abbrev pub inc_header : Header
-inc_header = record { kind = Inc; vars = 0; clauses = 0 }
 
 -- the item that is closed
 abbrev pub closed : Mode → List ℕ → Item
-closed Start lits = item.Header inc_header
-closed Kind lits = item.Header inc_header
-closed Between lits = item.Clause lits
-closed InClause lits = item.Clause lits
 closed InQuery lits = item.Query lits
+closed mode lits = item.Clause lits
+
+-- where one stands behind a statement
+abbrev pub resting : Mode → Mode
+resting (Between kind) = Between kind
+resting (InClause kind) = Between kind
+resting mode = Between Inc
 
 -- a literal opens a clause
 abbrev pub opened : Mode → Mode
-opened Between = InClause
+opened (Between kind) = InClause kind
 opened mode = mode
 
 -- an item before others
@@ -71,8 +104,8 @@ nothing e = record { items = []; ending = e }
 
 -- how it ends where no word is left
 abbrev pub at_end : Mode → ℕ → Ending
-at_end Start last = Bad last HeaderExpected
-at_end Between last = Whole
+at_end (Start heads) last = Bad last HeaderExpected
+at_end (Between kind) last = Whole
 at_end mode last = Bad last NotClosed
 
 -- what follows from a word, where `go` says what the words after it give
@@ -80,7 +113,8 @@ abbrev pub follow : Meaning → ℕ → Point → (Point → Outcome) → Outcom
 follow (Enters mode) n p go = go (record { mode = mode; lits = []; count = p.count })
 follow (Adds l) n p go =
     if nat_lt p.count max_literals then go (record { mode = opened p.mode; lits = p.lits ++ l ∷ []; count = p.count + 1 }) else nothing (Bad n TooManyLiterals)
-follow Closes n p go = put_item (closed p.mode p.lits) (go (record { mode = Between; lits = []; count = p.count }))
+follow Closes n p go = put_item (closed p.mode p.lits) (go (record { mode = resting p.mode; lits = []; count = p.count }))
+follow (Heading h) n p go = put_item (item.Header h) (go (record { mode = Between h.kind; lits = []; count = p.count }))
 follow (Wrong why) n p go = nothing (Bad n why)
 
 -- What tokens say from a point on, where this is the number of the last line.
@@ -91,11 +125,11 @@ reads (Fault n why ∷ ts) p last = nothing (Bad n why)
 reads (CutOff ∷ ts) p last = nothing Stopped
 
 -- what a whole text says
-abbrev pub start : Point
-start = record { mode = Start; lits = []; count = 0 }
+abbrev pub start : Heads → Point
+start heads = record { mode = Start heads; lits = []; count = 0 }
 
-abbrev pub text_reads : List ℕ → Outcome
-text_reads bytes = reads (text_tokens bytes) start (last_line_of bytes)
+abbrev pub text_reads : Heads → List ℕ → Outcome
+text_reads heads bytes = reads (text_tokens bytes) (start heads) (last_line_of bytes)
 
 -- the statements among items
 abbrev pub statements_of : List Item → List Statement
@@ -110,3 +144,17 @@ abbrev pub items_of : List Statement → List Item
 items_of [] = []
 items_of (Clause ls ∷ ss) = item.Clause ls ∷ items_of ss
 items_of (Query ls ∷ ss) = item.Query ls ∷ items_of ss
+
+-- the header among items, which is the first; where there is none, no variables are declared
+abbrev pub header_of : List Item → Header
+header_of (item.Header h ∷ is) = h
+header_of is = inc_header
+
+-- the query at the end of a whole text
+abbrev pub query_at_end : Ending → HeadKind → List Statement
+query_at_end Whole kind = last_query kind
+query_at_end end kind = []
+
+-- the script of an outcome
+abbrev pub script_of : Outcome → List Statement
+script_of o = statements_of o.items ++ query_at_end o.ending (header_of o.items).kind

@@ -7,15 +7,17 @@ use Rattle.io_edge.specs.Reading.{rest_of}
 use Rattle.icnf_reader.specs.Tokens.{Token, CutOff}
 use Rattle.icnf_reader.specs.WordState.{WordState, words_at_start, tokens_left, left_over, last_line, TakesLines}
 use Rattle.icnf_reader.specs.Grammar.{max_literals}
+use Rattle.icnf_reader.specs.Numbers.{max_var}
 use Rattle.icnf_reader.specs.Script.{Whole, Bad, Stopped}
 use Rattle.icnf_reader.specs.Outcomes.{Point, Outcome, reads, doing, follow, nothing, put_item, start}
-use Rattle.icnf_reader.specs.declared.item.Mode.{Mode}
-use Rattle.icnf_reader.specs.declared.item.Mode.TheVariants.{Start, Between, InClause, InQuery}
+use Rattle.icnf_reader.specs.declared.reader.Mode.{Mode}
+use Rattle.icnf_reader.specs.declared.reader.Mode.TheVariants.{Start, Kind, Vars, Clauses, Between, InClause, InQuery}
+use Rattle.icnf_reader.specs.declared.item.Heads.{Heads}
 use Rattle.icnf_reader.specs.declared.item.Item.{Item}
 use Rattle.icnf_reader.specs.declared.item.Item.TheVariants as item
 use Rattle.icnf_reader.specs.declared.item.Why.TheVariants.{HeaderExpected, NotClosed}
-use Rattle.icnf_reader.specs.declared.reader.Stop.{Stop}
-use Rattle.icnf_reader.specs.declared.reader.Stop.TheVariants as stop
+use Rattle.icnf_reader.specs.declared.item.Stop.{Stop}
+use Rattle.icnf_reader.specs.declared.item.Stop.TheVariants as stop
 
 -- the words, where in the grammar they stand, and whether an end or a stop was answered
 pub record ReadState : Type 0 where
@@ -24,8 +26,8 @@ pub record ReadState : Type 0 where
   pub done : Bool
 
 -- a reader of which nothing was asked yet
-abbrev pub at_start : ReadState
-at_start = record { words = words_at_start; point = start; done = false }
+abbrev pub at_start : Heads → ReadState
+at_start heads = record { words = words_at_start; point = start heads; done = false }
 
 -- how many literals the items have that were given so far
 abbrev pub given : Point → ℕ
@@ -39,15 +41,26 @@ lits_in i = 0
 
 -- no literal stands outside a statement
 abbrev pub NoneOutside : Mode → List ℕ → Type 0
-NoneOutside InClause lits = Unit {0}
+NoneOutside (InClause kind) lits = Unit {0}
 NoneOutside InQuery lits = Unit {0}
 NoneOutside mode lits = lits ≡ []
+
+-- a declared number of variables is in range
+abbrev pub IsDeclared : Mode → Type 0
+IsDeclared (Clauses vars) = vars ≤ max_var
+IsDeclared (Start heads) = Unit {0}
+IsDeclared (Kind heads) = Unit {0}
+IsDeclared Vars = Unit {0}
+IsDeclared (Between kind) = Unit {0}
+IsDeclared (InClause kind) = Unit {0}
+IsDeclared InQuery = Unit {0}
 
 -- what holds of each reader
 pub record IsSound (words : WordState) (mode : Mode) (lits : List ℕ) (count : ℕ) (done : Bool) : Type 0 where
   pub few : count ≤ max_literals
   pub counted : length lits ≤ count
   pub closed : NoneOutside mode lits
+  pub declared : IsDeclared mode
   pub going : done ≡ false → words.lines.done ≡ false
 
 -- what the bytes still to come say
@@ -66,9 +79,39 @@ lits_of None = 0
 
 -- the answer where no word is left and the last line has this number
 abbrev pub end_answer : Mode → ℕ → Result Item Stop
-end_answer Start last = Err (stop.Bad last HeaderExpected)
-end_answer Between last = Ok item.End
+end_answer (Start heads) last = Err (stop.Bad last HeaderExpected)
+end_answer (Between kind) last = Ok item.End
 end_answer mode last = Err (stop.Bad last NotClosed)
+
+-- whether the header is not whole yet
+abbrev pub is_before_header : Mode → Bool
+is_before_header (Start heads) = true
+is_before_header (Kind heads) = true
+is_before_header Vars = true
+is_before_header (Clauses vars) = true
+is_before_header mode = false
+
+-- a header
+abbrev pub IsHeaderItem : Item → Type 0
+IsHeaderItem (item.Header h) = Unit {0}
+IsHeaderItem i = ⊥
+
+-- a header declares at most so many variables as there are
+abbrev pub HasVars : Item → Type 0
+HasVars (item.Header h) = h.vars ≤ max_var
+HasVars (item.Clause ls) = Unit {0}
+HasVars (item.Query ls) = Unit {0}
+HasVars item.End = Unit {0}
+
+abbrev pub HaveVars : Option Item → Type 0
+HaveVars (Some i) = HasVars i
+HaveVars None = Unit {0}
+
+-- before the header is whole, nothing but it can be given
+abbrev pub GivesHeader : Mode → Result (Option Item) Stop → Type 0
+GivesHeader mode (Ok None) = is_before_header mode ≡ true
+GivesHeader mode (Ok (Some i)) = IsHeaderItem i
+GivesHeader mode (Err e) = Unit {0}
 
 -- what comes of one word, whatever the words after it say
 abbrev pub Takes : ℕ → List ℕ → Point → Point → Result (Option Item) Stop → Type 0
@@ -95,6 +138,13 @@ abbrev pub read_is_last : Result Item Stop → Bool
 read_is_last (Ok item.End) = true
 read_is_last (Ok i) = false
 read_is_last (Err e) = true
+
+-- whether an answer is that the source failed
+abbrev pub is_item_fault : Result Item Stop → Bool
+is_item_fault (Ok i) = false
+is_item_fault (Err stop.ReadFault) = true
+is_item_fault (Err (stop.Bad n why)) = false
+is_item_fault (Err stop.Memory) = false
 
 -- the same is to come
 abbrev pub SameOutcome : ReadState → ReadState → List ℕ → List ℕ → Type 0

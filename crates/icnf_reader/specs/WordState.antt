@@ -7,8 +7,8 @@ use Rattle.io_edge.specs.Reading.{LineState, fresh, rest_of}
 use Rattle.icnf_reader.specs.Tokens.{Token, Word, Fault, tokens}
 use Rattle.icnf_reader.specs.declared.words.WordGot.{WordGot}
 use Rattle.icnf_reader.specs.declared.words.WordGot.TheVariants as got
-use Rattle.icnf_reader.specs.declared.words.WordStop.{WordStop}
-use Rattle.icnf_reader.specs.declared.words.WordStop.TheVariants as stop
+use Rattle.icnf_reader.specs.declared.item.Stop.{Stop}
+use Rattle.icnf_reader.specs.declared.item.Stop.TheVariants as stop
 
 -- the lines, the words of the last line that were not given yet, and the word that was given last
 pub record WordState : Type 0 where
@@ -67,7 +67,7 @@ pub record BreaksOff (old : WordState) (before after : List ℕ) : Type 0 where
   pub going : old.lines.ended ≡ false
 
 -- what a reader of words answers
-abbrev pub WordAnswers : WordState → WordState → Option (List ℕ) → Option (List ℕ) → Result WordGot WordStop → Type 0
+abbrev pub WordAnswers : WordState → WordState → Option (List ℕ) → Option (List ℕ) → Result WordGot Stop → Type 0
 WordAnswers old new left left' (Ok (got.Word n)) = WhereTold (rest_of old.lines left) (rest_of new.lines left') (GivesWord old new n)
 WordAnswers old new left left' (Ok (got.End n)) = WhereTold (rest_of old.lines left) (rest_of new.lines left') (GivesEnd old n)
 WordAnswers old new left left' (Err (stop.Bad n why)) = IfSome (rest_of old.lines left) (λ rest. tokens_left old rest ≡ Fault n why ∷ [])
@@ -75,10 +75,17 @@ WordAnswers old new left left' (Err stop.ReadFault) = WhereTold (rest_of old.lin
 WordAnswers old new left left' (Err stop.Memory) = Unit {0}
 
 -- whether an answer is the last one
-abbrev pub word_is_last : Result WordGot WordStop → Bool
+abbrev pub word_is_last : Result WordGot Stop → Bool
 word_is_last (Ok (got.Word n)) = false
 word_is_last (Ok (got.End n)) = true
 word_is_last (Err e) = true
+
+-- whether an answer is that the source failed
+abbrev pub is_word_fault : Result WordGot Stop → Bool
+is_word_fault (Ok got) = false
+is_word_fault (Err stop.ReadFault) = true
+is_word_fault (Err (stop.Bad n why)) = false
+is_word_fault (Err stop.Memory) = false
 
 -- whether there was another word on the line
 abbrev pub InLine : Bool → WordState → WordState → Type 0

@@ -1,9 +1,8 @@
 //! What a reader gives: the items of an input, and the reasons for which an input is refused.
-ghost use Rattle.std.specs.Prelude.{◌≡◌};
+ghost use Rattle.std.specs.Prelude.{◌≡◌, ◌≤◌, length};
 ghost use Rattle.icnf_reader.specs.Reasons.{why_text};
 
 use sat_model::lists::Lits;
-use sat_model::literal::Lit;
 
 /// The kinds of headers.
 #[derive(Clone, Copy, Debug, PartialEq, Eq)]
@@ -16,11 +15,24 @@ pub enum HeadKind {
     Inc,
 }
 
-/// A header. Under `p inccnf` both numbers are 0.
+/// The headers that are in the grammar.
+#[derive(Clone, Copy, Debug, PartialEq, Eq)]
+pub enum Heads {
+    /// `p cnf V C` and `p inccnf`.
+    All,
+    /// `p cnf V C` alone.
+    CnfOnly,
+}
+
+/// A header: its kind, and the numbers of variables and of clauses that it declares. Under `p inccnf` both numbers are 0. No
+/// number is compared with what follows.
 #[derive(Clone, Copy, Debug, PartialEq, Eq)]
 pub struct Header {
+    /// Which statements may follow.
     pub kind: HeadKind,
+    /// V, at most `MAX_VAR`.
     pub vars: u32,
+    /// C, at most 2^62.
     pub clauses: u64,
 }
 
@@ -59,7 +71,8 @@ pub enum Why {
 impl Why {
     /// The reason as it is printed.
     pub fn text(self) -> &'static str
-        ensures { result.now ≡ why_text self }
+        ensures text { result.now ≡ why_text self }
+        ensures short { length result.now ≤ 30 }
     {
         match self {
             Why::HeaderExpected => "header expected",
@@ -73,43 +86,13 @@ impl Why {
     }
 }
 
-/// Where in the grammar a reader stands.
+/// Why a reader gives no more.
 #[derive(Clone, Copy, Debug, PartialEq, Eq)]
-pub enum Mode {
-    /// Before the first word.
-    Start,
-    /// After `p`.
-    Kind,
-    /// Between two statements.
-    Between,
-    /// In a clause.
-    InClause,
-    /// In a query.
-    InQuery,
-}
-
-/// What a word is in a literal's place.
-#[derive(Clone, Copy, Debug, PartialEq, Eq)]
-pub enum LitWord {
-    /// Digits of value 0.
-    Zero,
-    /// A number, perhaps with a sign, that names a literal.
-    Literal(Lit),
-    /// A number, perhaps with a sign, above each variable.
-    Large,
-    /// Any other word, `-0` and `+5` among them.
-    Other,
-}
-
-/// What a word does where a reader stands.
-#[derive(Clone, Copy, Debug, PartialEq, Eq)]
-pub enum Meaning {
-    /// It leads to a place where no literal was read yet.
-    Enters(Mode),
-    /// It adds a literal to the open statement.
-    Adds(Lit),
-    /// It ends the header or the open statement.
-    Closes,
-    /// It stands where no word of its kind may stand.
-    Wrong(Why),
+pub enum Stop {
+    /// The input goes wrong at the line of this number.
+    Bad(u64, Why),
+    /// The source failed.
+    ReadFault,
+    /// There was no memory.
+    Memory,
 }

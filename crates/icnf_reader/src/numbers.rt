@@ -1,10 +1,37 @@
-//! Number words: an optional `-` and decimal digits.
-ghost use Rattle.std.specs.Prelude.{◌≡◌, if◌then◌else◌, min, true};
+//! Number words: an optional `-` and decimal digits, as in DIMACS.
+//!
+//! A word is told in two places: where a literal may stand (`literal_word`), and where a number without a sign may stand
+//! (`plain_word`). Leading zeros are allowed, and a number of any length is told apart from one in range: its value is stopped at
+//! the first number that is too large, so it fits 64 bits.
+ghost use Rattle.std.specs.Prelude.{◌≡◌, ◌≤◌, ◌+◌, ◌^◌, if◌then◌else◌, min, true};
 ghost use Rattle.std.specs.List.{list_all};
-ghost use Rattle.icnf_reader.specs.Numbers.{place_of, negative_place, unsigned_place, are_digits, number_from, is_digit};
+ghost use Rattle.icnf_reader.specs.Numbers.{place_of, plain_place, negative_place, unsigned_place, are_digits, number_from, is_digit, IsAtMost};
 
-use crate::item::LitWord;
 use sat_model::literal::Lit;
+
+/// What a word is in a literal's place.
+#[derive(Clone, Copy, Debug, PartialEq, Eq)]
+pub enum LitWord {
+    /// Digits of value 0.
+    Zero,
+    /// A number, perhaps with a sign, that names a literal.
+    Literal(Lit),
+    /// A number, perhaps with a sign, above each variable.
+    Large,
+    /// Any other word, `-0` and `+5` among them.
+    Other,
+}
+
+/// What a word is in the place of a number without a sign.
+#[derive(Clone, Copy, Debug, PartialEq, Eq)]
+pub enum PlainWord {
+    /// Digits of this value, which is in range.
+    Value(u64),
+    /// Digits of a greater value.
+    Large,
+    /// Any other word, `-3` among them.
+    Other,
+}
 
 /// What a word is in a literal's place: a literal where its number is not 0 and at most `MAX_VAR` but for its sign, a zero
 /// where it has no sign and its number is 0. Leading zeros are allowed; `-0` and `+5` are neither.
@@ -23,6 +50,24 @@ pub fn literal_word(text: &[u8]) -> LitWord
     }
 }
 
+/// What a word is in the place of a number without a sign that is at most `max`, and `max` is at most 2^62: its value where it is
+/// one or more digits and in range. Leading zeros are allowed.
+pub fn plain_word(text: &[u8], max: u64) -> PlainWord
+    requires { max ≤ 2 ^ 62 }
+    ensures place { result ≡ plain_place max text.now }
+    ensures most { IsAtMost max result }
+{
+    if !all_digits(text) {
+        return PlainWord::Other;
+    }
+    let value = number_of(text, max + 1);
+    if value > max {
+        PlainWord::Large
+    } else {
+        PlainWord::Value(value)
+    }
+}
+
 // A number word without its sign.
 #[tactic(auto, unfolding(sat_terms::specs::Literal::pos_lit, sat_terms::specs::Literal::neg_lit))]
 fn signed_word(digits: &[u8], negative: bool) -> LitWord
@@ -31,7 +76,7 @@ fn signed_word(digits: &[u8], negative: bool) -> LitWord
     if !all_digits(digits) {
         return LitWord::Other;
     }
-    let value = number_of(digits);
+    let value = number_of(digits, 4_194_304);
     if value == 0 {
         return if negative {
             LitWord::Other
@@ -63,14 +108,18 @@ fn all_digits(bytes: &[u8]) -> bool
     }
 }
 
-// The number that digits write, or a greater one than any variable.
-fn number_of(digits: &[u8]) -> u32
-    requires { list_all is_digit digits.now ≡ true }
-    ensures { result ≡ min (number_from 0 digits.now) 4194304 }
+// The number that digits write, or `cap` where it is greater.
+fn number_of(digits: &[u8], cap: u64) -> u64
+    requires digits { list_all is_digit digits.now ≡ true }
+    requires cap { cap ≤ 2 ^ 62 + 1 }
+    ensures { result ≡ min (number_from 0 digits.now) cap }
 {
-    let mut n: u32 = 0;
+    let mut n: u64 = 0;
     for b in digits {
-        n = (10 * n + (*b - b'0') as u32).min(4_194_304);
+        n = n
+            .saturating_mul(10)
+            .saturating_add((*b - b'0') as u64)
+            .min(cap);
     }
     n
 }

@@ -1,18 +1,27 @@
-//! The items of a source.
+//! The items of a source: its header, its clauses, its queries, and its end.
+//!
+//! A reader keeps where in the grammar it stands (`Mode`), the literals of the statement that is open, and the number of all
+//! literals so far. Each word has a meaning at that place (`meaning_of`): it leads on, adds a literal, ends the header or a
+//! statement, or is wrong there. An item is given as soon as its last word was read, so a caller can answer a query before it
+//! reads further.
+//!
+//! What all calls together give is what the grammar says of the whole list of words. These laws are proved beside, over the
+//! function that this reader computes word by word (`specs/Outcomes.antt`), and stand on the functions of grammar.rt.
 ghost use Rattle.std.specs.Prelude.{◌≡◌, ◌+◌, ◌<◌, ◌≤◌, ◌^◌, ◌⊎◌, if◌then◌else◌, min, pos, ℕ, List, Bool, true, false, [], length, IfOk, IsErrOf};
 ghost use Rattle.std.specs.Str.{bytes_eq};
 ghost use Rattle.std.specs.Io.KnownBytes.{IsAtEnd};
 ghost use Rattle.io_edge.specs.Causes.{Rose};
-ghost use Rattle.icnf_reader.specs.Outcomes.{start as start_point, doing, in_statement, opened, closed};
-ghost use Rattle.icnf_reader.specs.ReadState.{Takes, ReadAnswers, ReadsOver, read_is_last, IsEndItem, at_start, given, lits_in, lits_of, end_answer};
+ghost use Rattle.icnf_reader.specs.Numbers.{max_var, max_number, plain_place};
+ghost use Rattle.icnf_reader.specs.Outcomes.{doing, kind_place, allows_inc, vars_place, clauses_place, begins_query, in_statement, opened, resting, closed};
+ghost use Rattle.icnf_reader.specs.ReadState.{Takes, ReadAnswers, ReadsOver, read_is_last, IsEndItem, IsHeaderItem, HasVars, HaveVars, GivesHeader, is_before_header, is_item_fault, at_start, given, lits_in, lits_of, end_answer};
 ghost use Rattle.icnf_reader.specs.WordState.{word_fuel};
 
-use crate::item::{HeadKind, Header, Item, LitWord, Meaning, Mode, Why};
-use crate::numbers::literal_word;
-use crate::words::{WordGot, WordReader, WordStop};
+use crate::item::{HeadKind, Header, Heads, Item, Stop, Why};
+use crate::numbers::{LitWord, PlainWord, literal_word, plain_word};
+use crate::words::{WordGot, WordReader};
 use io_edge::outside::Source;
 use sat_model::lists::Lits;
-use sat_model::literal::MAX_LITERALS;
+use sat_model::literal::{Lit, MAX_LITERALS, MAX_VAR};
 use sat_model::memory::Memory;
 use std::alloc::Global;
 use std::marker::Model;
@@ -25,25 +34,56 @@ const INC_HEADER: Header = Header {
     clauses: 0,
 };
 
-/// Why no item is given.
+// The greatest number of clauses that a header may declare, 2^62.
+const MAX_NUMBER: u64 = 4_611_686_018_427_387_904;
+
+// Where in the grammar a reader stands.
 #[derive(Clone, Copy, Debug, PartialEq, Eq)]
-pub enum Stop {
-    /// The input goes wrong at the line of this number.
-    Bad(u64, Why),
-    /// The source failed.
-    ReadFault,
-    /// There was no memory.
-    Memory,
+enum Mode {
+    // before the first word, where these headers are in the grammar
+    Start(Heads),
+    // after `p`
+    Kind(Heads),
+    // after `p cnf`
+    Vars,
+    // after `p cnf` and the number of variables
+    Clauses(u32),
+    // between two statements, under a header of this kind
+    Between(HeadKind),
+    // in a clause
+    InClause(HeadKind),
+    // in a query, which stands under `p inccnf` alone
+    InQuery,
+}
+
+// What a word does where a reader stands.
+#[derive(Clone, Copy, Debug, PartialEq, Eq)]
+enum Meaning {
+    // it leads to a place where no literal was read yet
+    Enters(Mode),
+    // it adds a literal to the open statement
+    Adds(Lit),
+    // it ends the open statement
+    Closes,
+    // it ends the header, which is this
+    Heading(Header),
+    // it stands where no word of its kind may stand
+    Wrong(Why),
 }
 
 /// Reads the items of a source. Contracts see its words, where in the grammar they stand, and whether it is done.
 #[derive(Drop)]
 pub struct Reader {
     alloc: Global,
+    // the words still to come
     words: WordReader,
+    // where in the grammar they stand
     mode: Mode,
+    // the literals of the open statement
     lits: Lits,
+    // how many literals all statements have so far, the open one too
     count: u64,
+    // whether an end or a stop was answered
     done: bool,
 }
 
@@ -62,28 +102,83 @@ fn meaning_of(mode: Mode, text: &[u8]) -> Meaning
     ensures { result ≡ doing mode text.now }
 {
     match mode {
-        Mode::Start => {
+        Mode::Start(heads) => {
             if text == b"p".as_slice() {
-                Meaning::Enters(Mode::Kind)
+                Meaning::Enters(Mode::Kind(heads))
             } else {
                 Meaning::Wrong(Why::HeaderExpected)
             }
         }
-        Mode::Kind => {
-            if text == b"inccnf".as_slice() {
-                Meaning::Closes
-            } else {
-                Meaning::Wrong(Why::HeaderExpected)
-            }
-        }
-        Mode::Between => {
-            if text == b"a".as_slice() {
+        Mode::Kind(heads) => meaning_of_kind(heads, text),
+        Mode::Vars => meaning_of_vars(text),
+        Mode::Clauses(vars) => meaning_of_clauses(vars, text),
+        Mode::Between(kind) => {
+            if is_query_word(kind, text) {
                 Meaning::Enters(Mode::InQuery)
             } else {
                 meaning_inside(literal_word(text))
             }
         }
-        Mode::InClause | Mode::InQuery => meaning_inside(literal_word(text)),
+        Mode::InClause(_) | Mode::InQuery => meaning_inside(literal_word(text)),
+    }
+}
+
+// What a word does after `p`.
+fn meaning_of_kind(heads: Heads, text: &[u8]) -> Meaning
+    ensures { result ≡ kind_place heads text.now }
+{
+    if text == b"cnf".as_slice() {
+        Meaning::Enters(Mode::Vars)
+    } else if has_inc(heads) && text == b"inccnf".as_slice() {
+        Meaning::Heading(INC_HEADER)
+    } else {
+        Meaning::Wrong(Why::HeaderExpected)
+    }
+}
+
+// Whether the header of iCNF is in the grammar.
+fn has_inc(heads: Heads) -> bool
+    ensures { result ≡ allows_inc heads }
+{
+    match heads {
+        Heads::All => true,
+        Heads::CnfOnly => false,
+    }
+}
+
+// What a word does after `p cnf`.
+fn meaning_of_vars(text: &[u8]) -> Meaning
+    ensures { result ≡ vars_place (plain_place max_var text.now) }
+{
+    match plain_word(text, MAX_VAR as u64) {
+        PlainWord::Value(vars) => Meaning::Enters(Mode::Clauses(vars as u32)),
+        PlainWord::Large => Meaning::Wrong(Why::OutOfRange),
+        PlainWord::Other => Meaning::Wrong(Why::UnexpectedWord),
+    }
+}
+
+// What a word does after `p cnf` and the number of variables.
+fn meaning_of_clauses(vars: u32, text: &[u8]) -> Meaning
+    ensures { result ≡ clauses_place vars (plain_place max_number text.now) }
+{
+    match plain_word(text, MAX_NUMBER) {
+        PlainWord::Value(clauses) => Meaning::Heading(Header {
+            kind: HeadKind::Cnf,
+            vars,
+            clauses,
+        }),
+        PlainWord::Large => Meaning::Wrong(Why::OutOfRange),
+        PlainWord::Other => Meaning::Wrong(Why::UnexpectedWord),
+    }
+}
+
+// Whether a word begins a query under a header of this kind.
+fn is_query_word(kind: HeadKind, text: &[u8]) -> bool
+    ensures { result ≡ begins_query kind text.now }
+{
+    match kind {
+        HeadKind::Cnf | HeadKind::Knf => false,
+        HeadKind::Inc => text == b"a".as_slice(),
     }
 }
 
@@ -104,8 +199,18 @@ fn opened_mode(mode: Mode) -> Mode
     ensures { result ≡ opened mode }
 {
     match mode {
-        Mode::Between => Mode::InClause,
+        Mode::Between(kind) => Mode::InClause(kind),
         other => other,
+    }
+}
+
+// Where the end of a statement leads.
+fn resting_mode(mode: Mode) -> Mode
+    ensures { result ≡ resting mode }
+{
+    match mode {
+        Mode::Between(kind) | Mode::InClause(kind) => Mode::Between(kind),
+        _ => Mode::Between(HeadKind::Inc),
     }
 }
 
@@ -114,9 +219,8 @@ fn closed_item(mode: Mode, lits: Lits) -> Item
     ensures { result ≡ closed mode lits }
 {
     match mode {
-        Mode::Start | Mode::Kind => Item::Header(INC_HEADER),
-        Mode::Between | Mode::InClause => Item::Clause(lits),
         Mode::InQuery => Item::Query(lits),
+        _ => Item::Clause(lits),
     }
 }
 
@@ -125,22 +229,22 @@ fn end_of(mode: Mode, last: u64) -> Result<Item, Stop>
     ensures { result ≡ end_answer mode last }
 {
     match mode {
-        Mode::Start => Err(Stop::Bad(last, Why::HeaderExpected)),
-        Mode::Between => Ok(Item::End),
-        Mode::Kind | Mode::InClause | Mode::InQuery => Err(Stop::Bad(last, Why::NotClosed)),
+        Mode::Start(_) => Err(Stop::Bad(last, Why::HeaderExpected)),
+        Mode::Between(_) => Ok(Item::End),
+        _ => Err(Stop::Bad(last, Why::NotClosed)),
     }
 }
 
 impl Reader {
-    /// A reader at line 1, of which nothing was asked yet.
-    pub fn new(alloc: Global) -> Result<Reader, Memory>
-        ensures { IfOk result (λ r. r ≡ at_start) }
+    /// A reader at line 1, of which nothing was asked yet, where these headers are in the grammar.
+    pub fn new(alloc: Global, heads: Heads) -> Result<Reader, Memory>
+        ensures { IfOk result (λ r. r ≡ at_start heads) }
     {
         let words = WordReader::new(alloc)?;
         Ok(Reader {
             alloc,
             words,
-            mode: Mode::Start,
+            mode: Mode::Start(heads),
             lits: Lits::new(alloc),
             count: 0,
             done: false,
@@ -158,6 +262,8 @@ impl Reader {
     fn take_word(&mut self, line: u64) -> Result<Option<Item>, Stop>
         ensures words { self.new.words ≡ self.old.words }
         ensures takes { Takes line self.old.words.text self.old.point self.new.point result }
+        ensures header { is_before_header self.old.point.mode ≡ true → GivesHeader self.new.point.mode result }
+        ensures vars { IfOk result HaveVars }
         ensures count { IfOk result (λ item. given self.new.point ≡ given self.old.point + lits_of item) }
         ensures few { given self.new.point ≤ 2 ^ 27 }
         ensures done { self.new.done ≡ self.old.done }
@@ -184,8 +290,13 @@ impl Reader {
             Meaning::Closes => {
                 let lits = mem::replace(&mut self.lits, Lits::new(self.alloc));
                 let item = closed_item(self.mode, lits);
-                self.mode = Mode::Between;
+                self.mode = resting_mode(self.mode);
                 Ok(Some(item))
+            }
+            Meaning::Heading(header) => {
+                self.mode = Mode::Between(header.kind);
+                self.lits = Lits::new(self.alloc);
+                Ok(Some(Item::Header(header)))
             }
             Meaning::Wrong(why) => Err(Stop::Bad(line, why)),
         }
@@ -193,14 +304,19 @@ impl Reader {
 
     /// The next item, given as soon as its last word was read. `End` and a stop are the last answer. `Bad` names the line of
     /// the first fault and its reason, `End` comes where nothing is wrong, and `ReadFault` only where the source failed in
-    /// this call. The grammar is that of iCNF (`p inccnf`, clauses, and queries that begin with `a`).
+    /// this call. The grammar is that of DIMACS (`p cnf V C` and clauses), where `new` allows all headers also that of iCNF
+    /// (`p inccnf`, clauses, and queries that begin with `a`). The query at the end of a `p cnf` text is no item of its own.
     ///
     /// The clauses compare what the text still to come says before and after the call. What all calls together give is said by
-    /// the grammar over the whole text: see `grammar::text_is_said`, `text_is_given`, `cut_is_said` and `cut_is_given`.
+    /// the grammar over the whole text: see `grammar::law_text_is_said`, `law_text_is_given`, `law_cut_is_said` and `law_cut_is_given`.
     pub fn next<S: Source>(&mut self, source: &mut S) -> Result<Item, Stop>
         requires { self.old.done ≡ false }
         ensures answer { ReadAnswers self.old self.new (S.left source.old) (S.left source.new) result }
         ensures done { self.new.done ≡ read_is_last result }
+
+        // The header is the first item.
+        ensures header { is_before_header self.old.point.mode ≡ true → IfOk result IsHeaderItem }
+        ensures vars { IfOk result HasVars }
 
         // The lines that were taken, whatever lines come behind them.
         ensures lines { ReadsOver self.old self.new (S.left source.old) (S.left source.new) result }
@@ -211,6 +327,7 @@ impl Reader {
 
         ensures later { S.faults source.old ≤ S.faults source.new }
         ensures cause { IsErrOf result Stop.ReadFault → Rose (S.faults source.old) (S.faults source.new) }
+        ensures no_fault { is_item_fault result ≡ false → S.faults source.new ≡ S.faults source.old }
         // All that was taken from a source before a fault was used.
         ensures dry { IsErrOf result Stop.ReadFault → (self.new.words.lines.ahead ≡ []) × (self.new.words.lines.ended ≡ false) }
 
@@ -236,9 +353,7 @@ impl Reader {
                     }
                 }
                 Ok(WordGot::End(last)) => return end_of(self.mode, last),
-                Err(WordStop::Bad(line, why)) => return Err(Stop::Bad(line, why)),
-                Err(WordStop::ReadFault) => return Err(Stop::ReadFault),
-                Err(WordStop::Memory) => return Err(Stop::Memory),
+                Err(stop) => return Err(stop),
             }
         }
     }

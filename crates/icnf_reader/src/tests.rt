@@ -1,8 +1,9 @@
 ghost use Rattle.std.specs.Prelude.{◌<◌};
 
-use crate::item::{Item, LitWord, Why};
-use crate::numbers::literal_word;
-use crate::reader::{Reader, Stop};
+use crate::item::{Heads, Item, Stop, Why};
+use crate::numbers::{LitWord, PlainWord, literal_word, plain_word};
+use crate::reader::Reader;
+use crate::words::{WordGot, WordReader};
 use io_edge::memory::MemSource;
 use sat_model::lists::Lits;
 use std::alloc::Global;
@@ -21,11 +22,17 @@ fn push_lits(text: &mut String, letter: &str, lits: &Lits) -> Result<(), Fail> {
 }
 
 // What a reader gives of an input, up to its last answer.
-fn items(alloc: Global, input: &str, cut: usize, fails: &[u64]) -> Result<String, Fail>
+fn items(
+    alloc: Global,
+    heads: Heads,
+    input: &str,
+    cut: usize,
+    fails: &[u64],
+) -> Result<String, Fail>
     requires { 0 < cut }
 {
     let mut source = MemSource::new(alloc, input.as_bytes(), cut, fails)?;
-    let mut reader = Reader::new(alloc)?;
+    let mut reader = Reader::new(alloc, heads)?;
     let mut text = String::new(alloc);
     for _ in 0..20u32 {
         if reader.is_done() {
@@ -65,7 +72,22 @@ fn inputs_have_items_and_faults(rt: HostRuntime) -> Result<(), Fail> {
         ),
         ("", "line 1: header expected"),
         ("\nc p inccnf\n", "line 2: header expected"),
-        ("p cnf 1 1\n1 0\n", "line 1: header expected"),
+        ("p cnf 2 1\n1 -2 0\n", "Cnf 2 1; clause 1 -2; end"),
+        (
+            "p cnf 4194303\nc 1\n04611686018427387904 0",
+            "Cnf 4194303 4611686018427387904; clause; end",
+        ),
+        ("p cnf 1 1\na 1 0\n", "Cnf 1 1; line 2: unexpected word"),
+        ("p cnf\n4194304 1\n", "line 2: number out of range"),
+        ("p cnf -1 1\n", "line 1: unexpected word"),
+        (
+            "p cnf 1\n4611686018427387905\n",
+            "line 2: number out of range",
+        ),
+        ("p cnf 1 x\n", "line 1: unexpected word"),
+        ("p\ncnf 1 1\n", "line 2: not closed"),
+        ("p cnf 2 1\n1 2\n", "Cnf 2 1; line 2: not closed"),
+        ("p cnf 3\n", "line 1: not closed"),
         ("p\n\nknf\n", "line 3: header expected"),
         ("p\n", "line 1: not closed"),
         ("p inccnf\nk 1 1 0\n", "Inc 0 0; line 2: unexpected word"),
@@ -87,7 +109,7 @@ fn inputs_have_items_and_faults(rt: HostRuntime) -> Result<(), Fail> {
         ("p inccnf\na 1", "Inc 0 0; line 2: not closed"),
     ] {
         for cut in [1usize, 7, 100000] {
-            let got = items(rt.alloc(), input, cut, &[])?;
+            let got = items(rt.alloc(), Heads::All, input, cut, &[])?;
             assert_eq!(rt; got.as_str(), want, "{input}");
         }
     }
@@ -96,8 +118,13 @@ fn inputs_have_items_and_faults(rt: HostRuntime) -> Result<(), Fail> {
 
 #[test]
 fn what_was_read_before_a_fault_is_given(rt: HostRuntime) -> Result<(), Fail> {
-    let got = items(rt.alloc(), "p inccnf\na 0\n1 0\n2 0", 4, &[4])?;
-    assert_eq!(rt; got.as_str(), "Inc 0 0; query; read fault");
+    for (heads, want) in [
+        (Heads::All, "Inc 0 0; query; read fault"),
+        (Heads::CnfOnly, "line 1: header expected"),
+    ] {
+        let got = items(rt.alloc(), heads, "p inccnf\na 0\n1 0\n2 0", 4, &[4])?;
+        assert_eq!(rt; got.as_str(), want);
+    }
     Ok(())
 }
 
@@ -129,5 +156,58 @@ fn words_are_literals_or_not(rt: HostRuntime) -> Result<(), Fail> {
     ] {
         assert_eq!(rt; literal_word(word.as_bytes()), want, "{word}");
     }
+    for (word, want) in [
+        ("007", PlainWord::Value(7)),
+        ("10", PlainWord::Value(10)),
+        ("11", PlainWord::Large),
+        ("99999999999999999999999", PlainWord::Large),
+        ("-3", PlainWord::Other),
+        ("", PlainWord::Other),
+    ] {
+        assert_eq!(rt; plain_word(word.as_bytes(), 10), want, "{word}");
+    }
+    Ok(())
+}
+
+// The words of an input, each with its line.
+fn words(alloc: Global, input: &str) -> Result<String, Fail> {
+    let mut source = MemSource::new(alloc, input.as_bytes(), 3, &[])?;
+    let mut reader = WordReader::new(alloc)?;
+    let mut text = String::new(alloc);
+    for _ in 0..20u32 {
+        if reader.is_done() {
+            break;
+        }
+        match reader.next(&mut source) {
+            Ok(WordGot::Word(line)) => {
+                let size = reader.text().len();
+                write!(text, "{line}:{size} ")?;
+            }
+            Ok(WordGot::End(line)) => write!(text, "end {line}")?,
+            Err(_) => text.push_str("stop")?,
+        }
+    }
+    Ok(text)
+}
+
+#[test]
+fn words_of_comments_are_left_out(rt: HostRuntime) -> Result<(), Fail> {
+    let got = words(rt.alloc(), "a\nc x\n-5 0\n")?;
+    assert_eq!(rt; got.as_str(), "1:1 3:2 3:1 end 3");
+    Ok(())
+}
+
+#[test]
+fn a_clause_longer_than_the_buffer_is_given(rt: HostRuntime) -> Result<(), Fail> {
+    let alloc = rt.alloc();
+    let mut input = String::new(alloc);
+    input.push_str("p inccnf\n")?;
+    for _ in 0..20_000u32 {
+        input.push_str("-12345 ")?;
+    }
+    input.push_str("0\n")?;
+    // Each literal is written with a blank before it.
+    let got = items(alloc, Heads::All, input.as_str(), 100_000, &[])?;
+    assert!(rt; got.len() >= 140_000);
     Ok(())
 }

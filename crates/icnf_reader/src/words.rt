@@ -1,13 +1,16 @@
 //! The words of the lines of a source.
+//!
+//! A line whose first byte that is no blank is `c` is a comment, and has no words; the words of another line are what stands
+//! between its blanks (CR, tab and space). Only one line is held at a time, in the reader of lines: a word is two places on it.
 ghost use Rattle.std.specs.Prelude.{◌≡◌, ◌+◌, ◌<◌, ◌≤◌, ◌^◌, ◌⊎◌, ℕ, List, Bool, true, false, [], ◌∷◌, length, drop, slice_range, slice_index, IfOk, IfSome, IfNone, IsErrOf};
 ghost use Rattle.std.specs.Io.KnownBytes.{IsAtEnd};
 ghost use Rattle.io_edge.specs.Causes.{Rose};
 ghost use Rattle.icnf_reader.specs.Words.{is_blank, is_comment as is_comment_line, words as words_in};
-ghost use Rattle.io_edge.specs.Reading.{Answers, is_last, rest_of, IsEnd};
+ghost use Rattle.io_edge.specs.Reading.{Answers, is_last, is_read_fault, rest_of, IsEnd};
 ghost use Rattle.icnf_reader.specs.Words.{line_words};
-ghost use Rattle.icnf_reader.specs.WordState.{words_at_start, WordAnswers, word_is_last, InLine, word_fuel, IsWordEnd};
+ghost use Rattle.icnf_reader.specs.WordState.{words_at_start, WordAnswers, word_is_last, is_word_fault, InLine, word_fuel, IsWordEnd};
 
-use crate::item::Why;
+use crate::item::{Stop, Why};
 use io_edge::lines::{LineGot, LineReader, LineStop};
 use io_edge::outside::Source;
 use sat_model::memory::Memory;
@@ -23,23 +26,15 @@ pub enum WordGot {
     End(u64),
 }
 
-/// Why no word is given.
-#[derive(Clone, Copy, Debug, PartialEq, Eq)]
-pub enum WordStop {
-    /// The line of this number passes a limit.
-    Bad(u64, Why),
-    /// The source failed.
-    ReadFault,
-    /// There was no memory.
-    Memory,
-}
-
 /// Reads the words of a source, but for those of comments. Contracts see the lines, the words of the last line that are still
 /// to be given, and the word that was given last.
 #[derive(Drop)]
 pub struct WordReader {
+    // the lines, of which the last one's words are being given
     lines: LineReader,
+    // where on that line the word begins that was given last
     start: usize,
+    // where it ends, and the other words are looked for
     at: usize,
 }
 
@@ -126,15 +121,20 @@ impl WordReader {
         })
     }
 
-    /// The next word. An answer other than a word is the last one. `Bad` comes at the first line that passes a limit,
-    /// `ReadFault` only where the source failed in this call.
-    pub fn next<S: Source>(&mut self, source: &mut S) -> Result<WordGot, WordStop>
+    /// The next word of the lines that are no comments; `text()` then gives its bytes. An answer other than a word is the last
+    /// one: the reader is done, and is not to be asked again. Each call is to be made with the same source.
+    ///
+    /// `End` comes exactly where no word is left. `Bad` comes at the first line that passes a limit, and names it. `ReadFault` comes
+    /// only where the source's count of faults rose; then the words that were given are those of the lines whose LF was taken.
+    pub fn next<S: Source>(&mut self, source: &mut S) -> Result<WordGot, Stop>
         requires { self.old.lines.done ≡ false }
         ensures answer { WordAnswers self.old self.new (S.left source.old) (S.left source.new) result }
         ensures done { self.new.lines.done ≡ word_is_last result }
+        ensures no_word { word_is_last result ≡ true → self.new.text ≡ [] }
         ensures later { S.faults source.old ≤ S.faults source.new }
-        ensures dry { IsErrOf result WordStop.ReadFault → (self.new.lines.ahead ≡ []) × (self.new.lines.ended ≡ false) }
-        ensures cause { IsErrOf result WordStop.ReadFault → Rose (S.faults source.old) (S.faults source.new) }
+        ensures dry { IsErrOf result Stop.ReadFault → (self.new.lines.ahead ≡ []) × (self.new.lines.ended ≡ false) }
+        ensures cause { IsErrOf result Stop.ReadFault → Rose (S.faults source.old) (S.faults source.new) }
+        ensures no_fault { is_word_fault result ≡ false → S.faults source.new ≡ S.faults source.old }
         ensures at_end { self.new.lines.ended ≡ true → (self.old.lines.ended ≡ true) ⊎ IsAtEnd (S.left source.new) }
         ensures unread { self.old.lines.ended ≡ true → source.new ≡ source.old }
         ensures stays { self.old.lines.ended ≡ true → self.new.lines.ended ≡ true }
@@ -150,16 +150,10 @@ impl WordReader {
             match self.next_line(source) {
                 Ok(LineGot::Line(_)) => {}
                 Ok(LineGot::End(number)) => return Ok(WordGot::End(number)),
-                Err(LineStop::ReadFault) => return Err(WordStop::ReadFault),
-                Err(LineStop::TooLong(number)) => return Err(WordStop::Bad(
-                    number,
-                    Why::LineTooLong,
-                )),
-                Err(LineStop::TooMuch(number)) => return Err(WordStop::Bad(
-                    number,
-                    Why::InputTooLong,
-                )),
-                Err(LineStop::Memory) => return Err(WordStop::Memory),
+                Err(LineStop::ReadFault) => return Err(Stop::ReadFault),
+                Err(LineStop::TooLong(number)) => return Err(Stop::Bad(number, Why::LineTooLong)),
+                Err(LineStop::TooMuch(number)) => return Err(Stop::Bad(number, Why::InputTooLong)),
+                Err(LineStop::Memory) => return Err(Stop::Memory),
             }
         }
     }
@@ -187,11 +181,13 @@ impl WordReader {
         requires { self.old.lines.done ≡ false }
         ensures answer { Answers self.old.lines self.new.lines (rest_of self.old.lines (S.left source.old)) (rest_of self.new.lines (S.left source.new)) result }
         ensures words { self.new.pending ≡ line_words self.new.lines.line }
+        ensures no_word { self.new.text ≡ [] }
         ensures unread { self.old.lines.ended ≡ true → source.new ≡ source.old }
         ensures done { self.new.lines.done ≡ is_last result }
         ensures later { S.faults source.old ≤ S.faults source.new }
         ensures dry { IsErrOf result LineStop.ReadFault → (self.new.lines.ahead ≡ []) × (self.new.lines.ended ≡ false) }
         ensures cause { IsErrOf result LineStop.ReadFault → Rose (S.faults source.old) (S.faults source.new) }
+        ensures no_fault { is_read_fault result ≡ false → S.faults source.new ≡ S.faults source.old }
         ensures at_end { self.new.lines.ended ≡ true → (self.old.lines.ended ≡ true) ⊎ IsAtEnd (S.left source.new) }
         ensures progress { is_last result ≡ false → (self.old.lines.used < self.new.lines.used) × (self.old.lines.used + length self.new.pending ≤ self.new.lines.used) }
         ensures few { self.new.lines.used ≤ 2 ^ 40 }
@@ -200,12 +196,19 @@ impl WordReader {
     {
         let got = self.lines.next(source);
         let at = beginning(self.lines.line());
-        self.start = 0;
+        self.start = at;
         self.at = at;
         got
     }
 
-    /// The bytes of the word that was given last.
+    /// Whether an end or a stop was answered.
+    pub fn is_done(&self) -> bool
+        ensures { result ≡ self.now.lines.done }
+    {
+        self.lines.is_done()
+    }
+
+    /// The bytes of the word that was given last. There are none where the last answer was no word.
     pub fn text(&self) -> &[u8]
         ensures { result.now ≡ self.now.text }
     {

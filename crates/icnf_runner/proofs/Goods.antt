@@ -1,9 +1,11 @@
 -- Good replies grow with the script.
-use Rattle.std.proofs.Common.{◌≡◌, ◌∙◌, sym, ap, refl, arith, subst, ℕ, ◌+◌, ◌<◌, max, List, [], ◌∷◌, ◌++◌, length, length-append, inl, inr, ⊎_elim}
+use Rattle.std.proofs.Common.{◌≡◌, ◌∙◌, sym, ap, refl, arith, subst, ℕ, ◌+◌, ◌<◌, max, List, [], ◌∷◌, ◌++◌, length, length-append, append_assoc, Bool, inl, inr, ⊎_elim}
 use Rattle.std.specs.Prelude.{◌⊎◌}
 use Rattle.icnf_reader.specs.Grammar.{Statement, Clause, Query}
 use Rattle.solver_api.specs.declared.givens.GivenPart.TheVariants as part
 use Rattle.reply_text.specs.Reply.{Reply, Unsat}
+use Rattle.std.proofs.lemmas.List.{append-nil}
+use Rattle.icnf_runner.specs.Output.{printed_reply, texts_from}
 use Rattle.icnf_runner.specs.Good.{parts_of, greatest_in, query_count, IsGood, IsSettled, GoodReplies}
 
 -- a list with one more member at its end, cut at a member: that is the last one, or it stands before
@@ -67,11 +69,11 @@ lits_in (Clause c) = c
 lits_in (Query b) = b
 
 -- nothing is good for nothing
-pub good_start : {budget : ℕ} → GoodReplies budget [] []
+pub good_start : {budget vars : ℕ} → GoodReplies budget vars [] []
 good_start = record { one_each = refl; good = λ above below a earlier later r cut e n. absurd (not_none above (Query a) below cut) }
 
 -- a clause asks for no reply
-pub good_clause : {budget : ℕ} (script : List Statement) (replies : List Reply) (c : List ℕ) → GoodReplies budget script replies → GoodReplies budget (script ++ Clause c ∷ []) replies
+pub good_clause : {budget vars : ℕ} (script : List Statement) (replies : List Reply) (c : List ℕ) → GoodReplies budget vars script replies → GoodReplies budget vars (script ++ Clause c ∷ []) replies
 good_clause script replies c h = record {
   one_each = let n = count_push script (Clause c) in omega (arith, h.one_each, n);
   good = λ above below a earlier later r cut e n.
@@ -85,12 +87,12 @@ good_clause script replies c h = record {
     differ e = cc
 
 -- a query asks for a good one
-pub good_query : {budget : ℕ} (script : List Statement) (replies : List Reply) (a : List ℕ) (r : Reply) → GoodReplies budget script replies → IsGood budget script a r → (IsSettled script replies → r ≡ Unsat [])
-    → GoodReplies budget (script ++ Query a ∷ []) (replies ++ r ∷ [])
-good_query {budget} script replies a r h is settles = record {
+pub good_query : {budget vars : ℕ} (script : List Statement) (replies : List Reply) (a : List ℕ) (r : Reply) → GoodReplies budget vars script replies → IsGood budget vars script a r → (IsSettled script replies → r ≡ Unsat [])
+    → GoodReplies budget vars (script ++ Query a ∷ []) (replies ++ r ∷ [])
+good_query {budget} {vars} script replies a r h is settles = record {
   one_each = let n = count_push script (Query a) in let m = length-append replies (r ∷ []) in omega (arith, h.one_each, n, m);
   good = λ above below b earlier later q cut e n.
-      let Fine : Type 0 = IsGood budget above b q × (IsSettled above earlier → q ≡ Unsat []) in
+      let Fine : Type 0 = IsGood budget vars above b q × (IsSettled above earlier → q ≡ Unsat []) in
       ⊎_elim
       (λ (l : IsLast script (Query a) above (Query b) below).
       ⊎_elim
@@ -113,10 +115,35 @@ good_query {budget} script replies a r h is settles = record {
     same_query e = ap lits_in e
 
     moved : {above : List Statement} {b : List ℕ} {earlier : List Reply} {q : Reply} → script ≡ above → a ≡ b → replies ≡ earlier → r ≡ q
-        → IsGood budget above b q × (IsSettled above earlier → q ≡ Unsat [])
+        → IsGood budget vars above b q × (IsSettled above earlier → q ≡ Unsat [])
     moved {above} {b} {earlier} {q} e1 e2 e3 e4 =
-        let P1 : List Statement → Type 0 = λ x. IsGood budget x b q × (IsSettled x earlier → q ≡ Unsat []) in
-        let P2 : List ℕ → Type 0 = λ x. IsGood budget script x q × (IsSettled script earlier → q ≡ Unsat []) in
-        let P3 : List Reply → Type 0 = λ x. IsGood budget script a q × (IsSettled script x → q ≡ Unsat []) in
-        let P4 : Reply → Type 0 = λ x. IsGood budget script a x × (IsSettled script replies → x ≡ Unsat []) in
+        let P1 : List Statement → Type 0 = λ x. IsGood budget vars x b q × (IsSettled x earlier → q ≡ Unsat []) in
+        let P2 : List ℕ → Type 0 = λ x. IsGood budget vars script x q × (IsSettled script earlier → q ≡ Unsat []) in
+        let P3 : List Reply → Type 0 = λ x. IsGood budget vars script a q × (IsSettled script x → q ≡ Unsat []) in
+        let P4 : Reply → Type 0 = λ x. IsGood budget vars script a x × (IsSettled script replies → x ≡ Unsat []) in
         subst P1 e1 (subst P2 e2 (subst P3 e3 (subst P4 e4 (is, settles))))
+
+-- where there is no statement there is no reply, and so all are good for any number of variables
+pub no_replies : {budget vars : ℕ} (replies : List Reply) → GoodReplies budget vars [] replies → replies ≡ []
+no_replies [] h = refl
+no_replies (r ∷ rs) h = absurd (omega (arith, h.one_each))
+
+-- what is printed for one more query, and for one more clause
+pub text_query : (check : Bool) (n : ℕ) (script : List Statement) (replies : List Reply) (a : List ℕ) (r : Reply) → length replies ≡ query_count script
+    → texts_from check n (script ++ Query a ∷ []) (replies ++ r ∷ []) ≡ texts_from check n script replies ++ printed_reply check (n + length (parts_of script) + length a) r
+text_query check n [] [] a r e = let z : n + length a ≡ n + 0 + length a = omega arith in
+    append-nil (printed_reply check (n + length a) r) ∙ ap (λ k. printed_reply check k r) z
+text_query check n [] (q ∷ qs) a r e = absurd (omega arith)
+text_query check n (Clause c ∷ ss) qs a r e =
+    let z : n + 1 + length (parts_of ss) + length a ≡ n + length (parts_of (Clause c ∷ ss)) + length a = omega arith in
+    text_query check (n + 1) ss qs a r e ∙ ap (λ k. texts_from check (n + 1) ss qs ++ printed_reply check k r) z
+text_query check n (Query b ∷ ss) [] a r e = absurd (omega arith)
+text_query check n (Query b ∷ ss) (q ∷ qs) a r e =
+    ap (λ t. printed_reply check (n + length b) q ++ t) (text_query check n ss qs a r (omega arith))
+    ∙ sym (append_assoc (printed_reply check (n + length b) q) (texts_from check n ss qs) (printed_reply check (n + length (parts_of ss) + length a) r))
+
+pub text_clause : (check : Bool) (n : ℕ) (script : List Statement) (replies : List Reply) (c : List ℕ) → texts_from check n (script ++ Clause c ∷ []) replies ≡ texts_from check n script replies
+text_clause check n [] qs c = refl
+text_clause check n (Clause b ∷ ss) qs c = text_clause check (n + 1) ss qs c
+text_clause check n (Query b ∷ ss) [] c = refl
+text_clause check n (Query b ∷ ss) (q ∷ qs) c = ap (λ t. printed_reply check (n + length b) q ++ t) (text_clause check n ss qs c)

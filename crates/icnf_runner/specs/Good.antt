@@ -25,13 +25,14 @@ query_count [] = 0
 query_count (Clause c ∷ ss) = query_count ss
 query_count (Query a ∷ ss) = 1 + query_count ss
 
--- A good reply to the query of these assumptions below these statements: a model of the parts above and of the assumptions,
--- which gives a value to each variable up to the greatest one so far; or a core of the assumptions; or UNKNOWN after as many
--- conflicts as the budget has. A budget of 2^62 is none, and no UNKNOWN is good there.
-abbrev pub IsGood : ℕ → List Statement → List ℕ → Reply → Type 0
-IsGood budget above a (Sat m) = IsModel (GivenTrue (parts_of above)) a (max (greatest_in above) (greatest_var a)) m
-IsGood budget above a (Unsat core) = IsCore (GivenTrue (parts_of above)) a core
-IsGood budget above a (Unknown conflicts) = (conflicts ≡ budget) × (conflicts < 2 ^ 62)
+-- A good reply to the query of these assumptions below these statements, where so many variables are declared: a model of the
+-- parts above and of the assumptions, which gives a value to each variable up to the greatest one so far, and to each declared
+-- one; or a core of the assumptions; or UNKNOWN after as many conflicts as the budget has. A budget of 2^62 is none, and no
+-- UNKNOWN is good there.
+abbrev pub IsGood : ℕ → ℕ → List Statement → List ℕ → Reply → Type 0
+IsGood budget vars above a (Sat m) = IsModel (GivenTrue (parts_of above)) a (max vars (max (greatest_in above) (greatest_var a))) m
+IsGood budget vars above a (Unsat core) = IsCore (GivenTrue (parts_of above)) a core
+IsGood budget vars above a (Unknown conflicts) = (conflicts ≡ budget) × (conflicts < 2 ^ 62)
 
 -- below these statements and after these replies nothing has a model any more: an empty clause, or an empty core
 abbrev pub IsSettled : List Statement → List Reply → Type 0
@@ -39,8 +40,8 @@ IsSettled above earlier = Contains above (Clause []) ⊎ Contains earlier (Unsat
 
 -- A reply to each query of the script, in order, where each query has this budget of conflicts. Each reply is good, and where
 -- all is settled before it, it is the empty core.
-pub record GoodReplies (budget : ℕ) (script : List Statement) (replies : List Reply) : Type 0 where
+pub record GoodReplies (budget vars : ℕ) (script : List Statement) (replies : List Reply) : Type 0 where
   pub one_each : length replies ≡ query_count script
   pub good : (above below : List Statement) (a : List ℕ) (earlier later : List Reply) (r : Reply)
       → script ≡ above ++ Query a ∷ below → replies ≡ earlier ++ r ∷ later → length earlier ≡ query_count above
-      → IsGood budget above a r × (IsSettled above earlier → r ≡ Unsat [])
+      → IsGood budget vars above a r × (IsSettled above earlier → r ≡ Unsat [])

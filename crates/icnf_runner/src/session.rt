@@ -1,23 +1,27 @@
-//! Clauses and queries, handed to a solver.
-ghost use Rattle.std.specs.Prelude.{◌≡◌, ◌+◌, ◌≤◌, ◌<◌, ◌^◌, ◌||◌, ◌==◌, max, ℕ, List, [], ◌∷◌, ◌++◌, length, Ok, OnOk, IfOk, IsErrOf, string_bytes};
-ghost use Rattle.io_edge.specs.Causes.{Rose};
+//! Clauses and queries, handed to a solver, and the replies to queries.
+ghost use Rattle.std.specs.Prelude.{true, false, ◌≡◌, ◌+◌, ◌≤◌, ◌<◌, ◌^◌, ℕ, List, [], ◌∷◌, ◌++◌, length, Ok, OnOk, OnErr, IfOk, IsErrOf};
+ghost use Rattle.std.specs.Io.KnownBytes.{Appends};
+ghost use Rattle.io_edge.specs.Causes.{Rose, HasCause};
+ghost use Rattle.io_edge.specs.Told.{AppendsFront};
 ghost use Rattle.solver_api.specs.Steps.{state, Step};
 ghost use Rattle.solver_api.specs.declared.calls.Call.TheVariants as calls;
 ghost use Rattle.solver_api.specs.declared.calls.Reply.TheVariants as replies;
 ghost use Rattle.search_engine.specs.declared.state.Spent.TheVariants.{Conflicts};
-ghost use Rattle.icnf_runner.specs.Session.{assumed, IsSolved, IsReplied, IsHalfReplied};
+ghost use Rattle.reply_text.specs.Reply.{Sat};
+ghost use Rattle.reply_text.specs.Text.{padded};
+ghost use Rattle.icnf_runner.specs.Output.{printed_reply};
+ghost use Rattle.icnf_runner.specs.Options.{IsInRange};
+ghost use Rattle.icnf_runner.specs.Session.{assumed, Solves, checks, IsModelShown, IsCoreShown, ShowsModel, ShowsCore, status_if, is_write_break, IsAnswered, IsHalfReplied};
 
-use io_edge::outside::{Sink, write_all};
-use reply_text::text::{push_core, push_model, push_unknown};
+use crate::options::Options;
+use crate::status::{NO_ANSWER, SATISFIABLE, Status, UNSATISFIABLE};
+use io_edge::outside::{Failed, Sink};
+use reply_text::text::{write_checked, write_core, write_model, write_unknown};
 use sat_model::lists::Lits;
 use sat_model::literal::Lit;
 use sat_model::memory::Memory;
 use solver_api::calls::{Budget, Outcome, Refusal, Spent};
 use solver_api::solver::Solver;
-use std::alloc::Global;
-
-// How many steps a pass of simplification may take.
-const STEP_LIMIT: u64 = 1_000_000;
 
 /// Why a reply was not given.
 #[derive(Clone, Copy, Debug, PartialEq, Eq)]
@@ -72,83 +76,130 @@ fn conflicts_of(spent: Spent) -> u64
     }
 }
 
-// Solves within a budget, appends the text of the reply, and answers its status.
-fn solve(
-    alloc: Global,
-    solver: &mut Solver,
-    budget: Budget,
-    text: &mut String,
-) -> Result<u8, Memory>
-    requires conflicts { budget.conflicts ≤ 2 ^ 62 }
-    requires callbacks { budget.callbacks ≤ 2 ^ 62 }
-    ensures { IfOk result (IsSolved budget.conflicts (state solver.old) (state solver.new) (string_bytes text.old) (string_bytes text.new)) }
+// Solves under these assumptions, for which the solver has room.
+fn solve(solver: &mut Solver, lits: &[Lit], options: Options) -> Result<Outcome, Memory>
+    requires range { IsInRange options }
+    requires room { (state solver.old).taken + length lits.now ≤ 2 ^ 27 }
+    ensures { IfOk result (λ outcome. Solves options (assumed (state solver.old) lits.now) outcome (state solver.new)) }
 {
-    match solver.solve(budget, STEP_LIMIT) {
-        Ok(Outcome::Sat) => match solver.model() {
-            Ok(model) => {
-                push_model(alloc, text, model)?;
-                Ok(10)
-            }
-            Err(_) => unreachable!(),
-        },
-        Ok(Outcome::Unsat) => match solver.core() {
-            Ok(core) => {
-                push_core(text, core)?;
-                Ok(20)
-            }
-            Err(_) => unreachable!(),
-        },
-        Ok(Outcome::Unknown(spent)) => {
-            push_unknown(text, conflicts_of(spent))?;
-            Ok(0)
-        }
+    assume_all(solver, lits)?;
+    let budget = Budget {
+        conflicts: options.conflicts,
+        callbacks: options.callbacks,
+    };
+    match solver.solve(budget, options.steps) {
+        Ok(outcome) => Ok(outcome),
         Err(Refusal::Memory) => Err(Memory),
         Err(_) => unreachable!(),
     }
 }
 
-// Assumes literals, solves within a budget, and answers the text of the reply and its status.
-fn reply_to(
-    alloc: Global,
-    solver: &mut Solver,
-    lits: &[Lit],
-    budget: Budget,
-) -> Result<(String, u8), Memory>
-    requires conflicts { budget.conflicts ≤ 2 ^ 62 }
-    requires callbacks { budget.callbacks ≤ 2 ^ 62 }
-    requires room { (state solver.old).taken + length lits.now ≤ 2 ^ 27 }
-    ensures { IfOk result (λ r. IsSolved budget.conflicts (assumed (state solver.old) lits.now) (state solver.new) [] (string_bytes r.0) r.1) }
+// How much of what was given and assumed the shown model makes true, where that is asked for.
+fn checked_count(solver: &Solver, check: bool) -> u64
+    requires { IsModelShown (state solver.now) }
+    ensures { check ≡ true → result ≡ checks (state solver.now) }
 {
-    assume_all(solver, lits)?;
-    let mut text = String::new(alloc);
-    let code = solve(alloc, solver, budget, &mut text)?;
-    Ok((text, code))
+    if !check {
+        return 0;
+    }
+    match solver.recheck() {
+        Ok(count) => count,
+        Err(_) => unreachable!(),
+    }
 }
 
-/// Replies to a query under these assumptions, for which the solver has room: solves within a budget, whose numbers are at most
-/// 2^62, writes the reply and answers its status.
-pub fn give_reply<K: Sink>(
-    alloc: Global,
-    solver: &mut Solver,
-    lits: &Lits,
-    budget: Budget,
+// Writes a model, and behind it the count of what it was found to make true, where that is asked for.
+fn write_checked_model<K: Sink>(
     sink: &mut K,
-) -> Result<u8, Break>
-    requires conflicts { budget.conflicts ≤ 2 ^ 62 }
-    requires callbacks { budget.callbacks ≤ 2 ^ 62 }
-    requires room { (state solver.old).taken + length lits.now ≤ 2 ^ 27 }
-    ensures ok { IfOk result (IsReplied budget.conflicts (state solver.old) lits.now (state solver.new) (K.written sink.old) (K.written sink.new)) }
-    ensures write { IsErrOf result Break.Write → IsHalfReplied budget.conflicts (state solver.old) lits.now (K.written sink.old) (K.written sink.new) }
-    ensures memory { IsErrOf result Break.Memory → sink.new ≡ sink.old }
-    ensures later { K.faults sink.old ≤ K.faults sink.new }
-    ensures cause { IsErrOf result Break.Write → Rose (K.faults sink.old) (K.faults sink.new) }
+    model: &[bool],
+    vars: u32,
+    check: bool,
+    count: u64,
+) -> Result<(), Failed>
+    requires model { length model.now < 2 ^ 22 }
+    requires vars { vars < 2 ^ 22 }
+    ensures ok { OnOk result (Appends (K.written sink.old) (K.written sink.new) (printed_reply check count (Sat (padded vars model.now)))) }
+    ensures err { OnErr result (AppendsFront (K.written sink.old) (K.written sink.new) (printed_reply check count (Sat (padded vars model.now)))) }
+    ensures cause { HasCause (K.faults sink.old) (K.faults sink.new) result }
 {
-    let (text, code) = match reply_to(alloc, solver, lits.as_slice(), budget) {
-        Ok(reply) => reply,
-        Err(_) => return Err(Break::Memory),
-    };
-    match write_all(sink, text.as_bytes()) {
-        Ok(()) => Ok(code),
+    write_model(sink, model, vars)?;
+    if check {
+        write_checked(sink, count)
+    } else {
+        Ok(())
+    }
+}
+
+// Writes the model that the solver shows.
+fn show_model<K: Sink>(solver: &Solver, vars: u32, check: bool, sink: &mut K) -> Result<(), Failed>
+    requires shown { IsModelShown (state solver.now) }
+    requires vars { vars < 2 ^ 22 }
+    ensures ok { OnOk result (ShowsModel check vars (state solver.now) (Appends (K.written sink.old) (K.written sink.new))) }
+    ensures err { OnErr result (ShowsModel check vars (state solver.now) (AppendsFront (K.written sink.old) (K.written sink.new))) }
+    ensures cause { HasCause (K.faults sink.old) (K.faults sink.new) result }
+{
+    match solver.model() {
+        Ok(model) => write_checked_model(sink, model, vars, check, checked_count(solver, check)),
+        Err(_) => unreachable!(),
+    }
+}
+
+// Writes the core that the solver shows.
+fn show_core<K: Sink>(solver: &Solver, sink: &mut K) -> Result<(), Failed>
+    requires { IsCoreShown (state solver.now) }
+    ensures ok { OnOk result (ShowsCore (state solver.now) (Appends (K.written sink.old) (K.written sink.new))) }
+    ensures err { OnErr result (ShowsCore (state solver.now) (AppendsFront (K.written sink.old) (K.written sink.new))) }
+    ensures cause { HasCause (K.faults sink.old) (K.faults sink.new) result }
+{
+    match solver.core() {
+        Ok(core) => write_core(sink, core),
+        Err(_) => unreachable!(),
+    }
+}
+
+// The status, where all was written.
+fn status_of(wrote: Result<(), Failed>, status: Status) -> Result<Status, Break>
+    ensures { result ≡ status_if wrote status }
+{
+    match wrote {
+        Ok(()) => Ok(status),
         Err(_) => Err(Break::Write),
+    }
+}
+
+/// Replies to a query under these assumptions, for which the solver has room: solves within the budgets of the options, writes the
+/// reply, and answers its status. So many variables are declared, and have a value in a model. The reply is written as it comes, and
+/// takes no memory.
+pub fn give_reply<K: Sink>(
+    solver: &mut Solver,
+    lits: &[Lit],
+    options: Options,
+    vars: u32,
+    sink: &mut K,
+) -> Result<Status, Break>
+    requires range { IsInRange options }
+    requires room { (state solver.old).taken + length lits.now ≤ 2 ^ 27 }
+    requires vars { vars < 2 ^ 22 }
+    ensures ok { IfOk result (λ status. IsAnswered options vars (state solver.old) lits.now (state solver.new) (K.written sink.old) (K.written sink.new) status.code) }
+    ensures write { IsErrOf result Break.Write → IsHalfReplied options vars (state solver.old) lits.now (K.written sink.old) (K.written sink.new) }
+    ensures memory { IsErrOf result Break.Memory → sink.new ≡ sink.old }
+    ensures cause { IsErrOf result Break.Write → Rose (K.faults sink.old) (K.faults sink.new) }
+    ensures later { K.faults sink.old ≤ K.faults sink.new }
+    ensures kept { is_write_break result ≡ false → K.faults sink.new ≡ K.faults sink.old }
+{
+    match solve(solver, lits, options) {
+        Ok(Outcome::Sat) => {
+            let wrote = show_model(solver, vars, options.check, sink);
+            status_of(wrote, SATISFIABLE)
+        }
+        Ok(Outcome::Unsat) => {
+            let wrote = show_core(solver, sink);
+            status_of(wrote, UNSATISFIABLE)
+        }
+        Ok(Outcome::Unknown(spent)) => {
+            let wrote = write_unknown(sink, conflicts_of(spent));
+            status_of(wrote, NO_ANSWER)
+        }
+        Err(_) => Err(Break::Memory),
     }
 }

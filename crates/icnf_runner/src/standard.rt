@@ -1,7 +1,7 @@
 //! Standard input, standard output and the words of the command line.
-ghost use Rattle.std.specs.Prelude.{◌≡◌, ◌<◌, ◌≤◌, None, length, IfOk, OnOk, OnErr};
+ghost use Rattle.std.specs.Prelude.{◌≡◌, ◌<◌, ◌≤◌, None, length, take, IfOk, OnOk, OnErr};
 ghost use Rattle.std.specs.Io.{ReadsAtMost};
-ghost use Rattle.std.specs.Io.KnownBytes.{ReadConsumes, WriteAppends};
+ghost use Rattle.std.specs.Io.KnownBytes.{ReadConsumes, WriteAppends, Appends};
 ghost use Rattle.io_edge.specs.Causes.{HasCause, next_count};
 
 use io_edge::outside::{Failed, Sink, Source};
@@ -39,6 +39,9 @@ impl<R: Read + Drop> Source for StdSource<R> {
         // The count is raised at each fault alone.
         ensures counted { OnErr result (self.new.faults ≡ next_count self.old.faults) }
         ensures kept { OnOk result (self.new.faults ≡ self.old.faults) }
+
+        // What the reader under it tells was given.
+        ensures gave { ReadConsumes (R.remaining self.old.reader) (R.remaining self.new.reader) result buf.new }
     {
         match self.reader.read(buf) {
             Ok(count) => Ok(count),
@@ -69,7 +72,8 @@ impl<W: Write + Drop> StdSink<W> {
 
 // Writes once, and flushes.
 fn put<W: Write>(writer: &mut W, piece: &[u8]) -> io::Result<usize>
-    ensures { IfOk result (λ count. count ≤ length piece.now) }
+    ensures bound { IfOk result (λ count. count ≤ length piece.now) }
+    ensures took { IfOk result (λ count. Appends (W.contents writer.old) (W.contents writer.new) (take count piece.now)) }
 {
     let count = writer.write(piece)?;
     writer.flush()?;
@@ -91,6 +95,9 @@ impl<W: Write + Drop> Sink for StdSink<W> {
         // The count is raised at each fault alone.
         ensures counted { OnErr result (self.new.faults ≡ next_count self.old.faults) }
         ensures kept { OnOk result (self.new.faults ≡ self.old.faults) }
+
+        // What the writer under it tells was written.
+        ensures took { IfOk result (λ count. Appends (W.contents self.old.writer) (W.contents self.new.writer) (take count piece.now)) }
     {
         match put(&mut self.writer, piece) {
             Ok(count) if count > 0 => Ok(count),

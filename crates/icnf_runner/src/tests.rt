@@ -1,10 +1,11 @@
-use super::run::{Status, run};
+use super::options::Options;
+use super::run::run;
 use super::session::give_reply;
+use super::status::{NO_ANSWER, Status};
 use io_edge::memory::{MemSink, MemSource};
-use sat_model::lists::Lits;
 use sat_model::literal::Lit;
-use solver_api::calls::Budget;
 use solver_api::solver::Solver;
+use std::alloc::Global;
 use std::test::Fail;
 
 // Two clauses and two queries, 43 bytes.
@@ -69,6 +70,20 @@ fn inputs_are_answered_however_they_are_cut(rt: HostRuntime) -> Result<(), Fail>
         (
             "p inccnf\n1 2\n3\nx 0\n",
             "c refused at line 4: unexpected word\n",
+            1,
+        ),
+        ("p cnf 2 1\n1 2\n", "c refused at line 2: not closed\n", 1),
+        ("p cnf 0 0\n", "s SATISFIABLE\nv 0\n", 10),
+        ("p cnf 1 2\n1 0\n-1 0\n", "s UNSATISFIABLE\nf 0\n", 20),
+        ("p cnf 3 1\n-1 0", "s SATISFIABLE\nv -1 -2 -3 0\n", 10),
+        (
+            "p cnf 20 20\n1 0 2 0 3 0 4 0 5 0 6 0 7 0 8 0 9 0 10 0\n11 0 12 0 13 0 14 0 15 0 16 0 17 0 18 0 19 0 20 0\n",
+            "s SATISFIABLE\nv 1 2 3 4 5 6 7 8 9 10 11 12 13 14 15 16 17 18 19 20\nv 0\n",
+            10,
+        ),
+        (
+            "p cnf 1 1\na 1 0\n",
+            "c refused at line 2: unexpected word\n",
             1,
         ),
     ] {
@@ -188,6 +203,58 @@ fn reads_and_writes_fail_in_turn(rt: HostRuntime) -> Result<(), Fail> {
         assert_eq!(rt; status, Status { code: 4 }, "write {failing}");
         assert!(rt; sink.written() == &replies[..failing], "write {failing}");
     }
+    // A reply is written before more is read: the first is, where the last line is still to come.
+    for failing in 0..replies.len() {
+        let mut source = MemSource::new(alloc, SCRIPT.as_bytes(), 1, &[])?;
+        let mut sink = MemSink::new(alloc, 1000, 1, &[failing as u64])?;
+        let status = run(alloc, &[], &mut source, &mut sink);
+        assert_eq!(rt; status, Status { code: 4 }, "write {failing}");
+        let rest = if failing < FIRST.len() { 10 } else { 0 };
+        assert_eq!(rt; source.rest().len(), rest, "write {failing}");
+    }
+    Ok(())
+}
+
+// The words of a text, cut at its bars.
+fn words_of(alloc: Global, text: &str) -> Result<Vec<String>, Fail> {
+    let mut words = Vec::new(alloc);
+    for word in text.split('|') {
+        words.push(String::from_str(alloc, word)?)?;
+    }
+    Ok(words)
+}
+
+// Nine clauses that say of three pigeons that they are in two holes, each alone.
+const PIGEONS: &str =
+    "p cnf 6 9\n1 2 0 3 4 0 5 6 0\n-1 -3 0 -1 -5 0 -3 -5 0\n-2 -4 0 -2 -6 0 -4 -6 0\n";
+
+#[test]
+fn words_state_options(rt: HostRuntime) -> Result<(), Fail> {
+    let alloc = rt.alloc();
+    let unit = "p inccnf\n1 0\na 0\n";
+    let model = "s SATISFIABLE\nv 1 0\n";
+    let unknown = "s UNKNOWN\nc conflicts 0\n";
+    let unsat = "s UNSATISFIABLE\nf 0\n";
+    for (words, input, want, code) in [
+        ("--steps|0|--conflicts|0", PIGEONS, unknown, 0u8),
+        ("--conflicts=000", PIGEONS, unknown, 0),
+        ("--steps|0|--conflicts=9832", PIGEONS, unsat, 20),
+        ("--conflicts|4611686018427387904", PIGEONS, unsat, 20),
+        ("--conflicts|0", unit, model, 10),
+        (
+            "--check|--callbacks=5",
+            SCRIPT,
+            "s SATISFIABLE\nv 1 -2 3 0\nc checked 5\ns UNSATISFIABLE\nf -2 -3 0\n",
+            20,
+        ),
+    ] {
+        let words = words_of(alloc, words)?;
+        let mut source = MemSource::new(alloc, input.as_bytes(), 1000, &[])?;
+        let mut sink = MemSink::new(alloc, 1000, 1000, &[])?;
+        let status = run(alloc, &words, &mut source, &mut sink);
+        assert_eq!(rt; status, Status { code });
+        assert!(rt; sink.written() == want.as_bytes());
+    }
     Ok(())
 }
 
@@ -196,8 +263,30 @@ fn words_are_refused_and_nothing_is_read(rt: HostRuntime) -> Result<(), Fail> {
     let alloc = rt.alloc();
     let usage =
         "c usage: icnf_runner [--simplify | --self N] [--conflicts N] [--callbacks N] [--steps N] [--stats] [--check]\n";
-    for word in ["", "--", "--help", "--stats"] {
-        let words = vec![in alloc; String::from_str(alloc, word)?]?;
+    for words in [
+        "",
+        "--",
+        "--help",
+        "-h",
+        "--stats",
+        "--conflicts",
+        "--conflicts|x",
+        "--conflicts|+5",
+        "--conflicts|-1",
+        "--conflicts=",
+        "--conflicts|4611686018427387905",
+        "--conflicts|1|--conflicts|2",
+        "--conflicts=1|--conflicts|1",
+        "--conf|1",
+        "--steps|1|2",
+        "--check|--check",
+        "--check=true",
+        "--check|",
+        "--self|0",
+        "--conflicts|--check",
+        "--|--check",
+    ] {
+        let words = words_of(alloc, words)?;
         let mut source = MemSource::new(alloc, SCRIPT.as_bytes(), 1000, &[0])?;
         let mut sink = MemSink::new(alloc, 1000, 1000, &[])?;
         let status = run(alloc, &words, &mut source, &mut sink);
@@ -221,12 +310,32 @@ fn a_budget_of_no_conflicts_gives_unknown(rt: HostRuntime) -> Result<(), Fail> {
         return Err("too many literals")?;
     }
     let mut sink = MemSink::new(alloc, 1000, 1000, &[])?;
-    let budget = Budget {
+    let options = Options {
         conflicts: 0,
         callbacks: 0,
+        steps: 0,
+        check: false,
     };
-    let code = give_reply(alloc, &mut solver, &Lits::new(alloc), budget, &mut sink);
-    assert!(rt; code.is_ok_and(|code| code == 0));
+    let status = give_reply(&mut solver, &[], options, 0, &mut sink);
+    assert!(rt; status.is_ok_and(|status| status == NO_ANSWER));
     assert!(rt; sink.written() == b"s UNKNOWN\nc conflicts 0\n".as_slice());
+    Ok(())
+}
+
+#[test]
+fn a_long_clause_and_a_long_model_are_taken(rt: HostRuntime) -> Result<(), Fail> {
+    let alloc = rt.alloc();
+    let mut input = String::new(alloc);
+    input.push_str("p cnf 20000 1\n")?;
+    for _ in 0..20_000u32 {
+        input.push_str("12345 ")?;
+    }
+    input.push_str("0\n")?;
+    let mut source = MemSource::new(alloc, input.as_bytes(), 100_000, &[])?;
+    let mut sink = MemSink::new(alloc, 1_000_000, 100_000, &[])?;
+    let status = run(alloc, &[], &mut source, &mut sink);
+    assert_eq!(rt; status, Status { code: 10 });
+    assert!(rt; sink.written().starts_with(b"s SATISFIABLE\nv "));
+    assert!(rt; sink.written().len() > 110_000);
     Ok(())
 }

@@ -86,6 +86,21 @@ is_last (Ok (Line n)) = false
 is_last (Ok (End n)) = true
 is_last (Err e) = true
 
+-- whether an answer is that the source failed
+abbrev pub is_read_fault : Result LineGot LineStop → Bool
+is_read_fault (Ok got) = false
+is_read_fault (Err stop.ReadFault) = true
+is_read_fault (Err (stop.TooLong n)) = false
+is_read_fault (Err (stop.TooMuch n)) = false
+is_read_fault (Err stop.Memory) = false
+
+abbrev pub is_broken_by_fault : Result Bool Broken → Bool
+is_broken_by_fault (Ok lf) = false
+is_broken_by_fault (Err broken.ReadFault) = true
+is_broken_by_fault (Err broken.TooLong) = false
+is_broken_by_fault (Err broken.TooMuch) = false
+is_broken_by_fault (Err broken.Memory) = false
+
 -- the end of the lines
 abbrev pub IsEnd : LineGot → Type 0
 IsEnd (Line n) = ⊥

@@ -5,8 +5,10 @@
 #![tactic(auto)]
 
 mod ahead;
+pub mod buffer;
 pub mod lines;
 pub mod memory;
 pub mod outside;
 #[cfg(test)]
 mod tests;
+pub mod wrapping;

@@ -4,7 +4,7 @@ ghost use Rattle.std.specs.Io.KnownBytes.{prepend_known, IsAtEnd, Keeps};
 ghost use Rattle.io_edge.specs.Causes.{HasCause, Rose};
 ghost use Rattle.io_edge.specs.Told.{WhereTold};
 ghost use Rattle.io_edge.specs.Lines.{IsTooLong, IsTooMuch};
-ghost use Rattle.io_edge.specs.Reading.{Takes, Finishes, fresh, end_of, rest_of, Answers, is_last, IsEnd, stop_for};
+ghost use Rattle.io_edge.specs.Reading.{Takes, Finishes, fresh, end_of, rest_of, Answers, is_last, is_read_fault, is_broken_by_fault, IsEnd, stop_for};
 
 use crate::ahead::Ahead;
 use crate::outside::Source;
@@ -102,6 +102,7 @@ impl LineReader {
 
         ensures later { S.faults source.old ≤ S.faults source.new }
         ensures cause { IsErrOf result LineStop.ReadFault → Rose (S.faults source.old) (S.faults source.new) }
+        ensures no_fault { is_read_fault result ≡ false → S.faults source.new ≡ S.faults source.old }
 
         // All that was taken from a source before a fault was used.
         ensures dry { IsErrOf result LineStop.ReadFault → (self.new.ahead ≡ []) × (self.new.ended ≡ false) }
@@ -218,6 +219,7 @@ fn gather<S: Source>(
 
     ensures later { S.faults source.old ≤ S.faults source.new }
     ensures cause { IsErrOf result Broken.ReadFault → Rose (S.faults source.old) (S.faults source.new) }
+    ensures no_fault { is_broken_by_fault result ≡ false → S.faults source.new ≡ S.faults source.old }
     ensures dry { IsErrOf result Broken.ReadFault → ahead.new ≡ [] }
     ensures memory { IsErrOf result Broken.Memory → Takes (S.left source.old) (S.left source.new) ahead.old ahead.new line.new.items [] }
     ensures fault { IsErrOf result Broken.ReadFault → Takes (S.left source.old) (S.left source.new) ahead.old ahead.new line.new.items [] }

@@ -1,6 +1,7 @@
 use crate::lines::{LineGot, LineReader, LineStop};
 use crate::memory::{MemSink, MemSource};
 use crate::outside::{Failed, Sink, Source, write_all};
+use crate::wrapping::write_wrapped;
 use std::test::Fail;
 
 #[test]
@@ -59,5 +60,26 @@ fn an_input_may_be_empty_or_broken(rt: HostRuntime) -> Result<(), Fail> {
     let mut broken = MemSource::new(rt.alloc(), b"ab\n", 1, &[1])?;
     let mut of_broken = LineReader::new(rt.alloc())?;
     assert_eq!(rt; of_broken.next(&mut broken), Err(LineStop::ReadFault));
+    Ok(())
+}
+
+#[test]
+fn numbers_are_joined_by_blanks(rt: HostRuntime) -> Result<(), Fail> {
+    let mut sink = MemSink::new(rt.alloc(), 1000, 1000, &[])?;
+    assert_eq!(rt;
+        write_wrapped(&mut sink, b"", &[10, -1_000_000_007]),
+        Ok(())
+    );
+    assert_eq!(rt; sink.written(), b"10 -1000000007 0\n".as_slice());
+    Ok(())
+}
+
+#[test]
+fn a_line_longer_than_the_buffer_is_given(rt: HostRuntime) -> Result<(), Fail> {
+    let bytes = vec![in rt.alloc(); b'x'; 200_000]?;
+    let mut source = MemSource::new(rt.alloc(), &bytes, 100_000, &[])?;
+    let mut reader = LineReader::new(rt.alloc())?;
+    assert_eq!(rt; reader.next(&mut source), Ok(LineGot::Line(1)));
+    assert_eq!(rt; reader.line().len(), 200_000);
     Ok(())
 }

@@ -5,6 +5,7 @@ use Rattle.std.specs.List.{dedup}
 use Rattle.std.proofs.lemmas.Bool.{false≢true, or_cases, or_left, or_right, eqb-true, eq-eqb}
 use Rattle.std.proofs.lemmas.List.Kept.{Contains-dedup_nat, Contains-from_dedup}
 use Rattle.sat_terms.specs.Literal.{has}
+use Rattle.sat_terms.proofs.Members.{same_tests}
 
 pub has_at : (c : List ℕ) (i d : ℕ) → i < length c → has c (get_or c i d) ≡ true
 has_at [] i d in' = absurd (omega arith)
@@ -23,11 +24,6 @@ pub has-from_Contains : (c : List ℕ) (l k : ℕ) → k < length c → get_or c
 has-from_Contains [] l k lt e = absurd (omega arith)
 has-from_Contains (x ∷ c) l zero lt e = or_left (eqb x l) (has c l) (eq-eqb x l e)
 has-from_Contains (x ∷ c) l (suc k) lt e = or_right (eqb x l) (has c l) (has-from_Contains c l k (omega arith) e)
-
-same_tests : (a b : Bool) → (a ≡ true → b ≡ true) → (b ≡ true → a ≡ true) → a ≡ b
-same_tests true b to from = sym (to refl)
-same_tests false true to from = from refl
-same_tests false false to from = refl
 
 -- a list without its repeats has the same members
 pub has-dedup : (c : List ℕ) (l : ℕ) → has (dedup eqb c) l ≡ has c l

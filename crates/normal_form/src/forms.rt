@@ -1,5 +1,5 @@
 //! Clauses in normal form.
-ghost use Rattle.std.specs.Prelude.{◌≡◌, ℕ, true, false, OnOk, OnErr, IfOk, IfSome, IfNone};
+ghost use Rattle.std.specs.Prelude.{◌≡◌, ℕ, true, false, IfOk, IfSome, IfNone, IsTrue, ◌↔◌};
 ghost use Rattle.std.specs.List.Sorted.{IsStrictlyIncreasing};
 ghost use Rattle.sat_terms.specs.Literal.{has};
 ghost use Rattle.sat_terms.specs.Normal.{IsNormal};
@@ -10,19 +10,32 @@ use sat_model::literal::Lit;
 use sat_model::memory::Memory;
 use std::alloc::Global;
 
-/// Puts literals in rising order and drops repeats, in place. After `Memory` they stand as before.
-pub fn rise(lits: &mut Vec<Lit>) -> Result<(), Memory>
-    ensures rising { OnOk result (IsStrictlyIncreasing lits.new.items) }
-    ensures same { OnOk result ((l : ℕ) → has lits.new.items l ≡ has lits.old.items l) }
-    ensures err { OnErr result (lits.new.items ≡ lits.old.items) }
+/// Puts literals in rising order and drops repeats, in place. It takes no memory.
+pub fn sort_and_dedup(lits: &mut Vec<Lit>)
+    ensures rising { IsStrictlyIncreasing lits.new.items }
+    ensures same { (l : ℕ) → has lits.new.items l ≡ has lits.old.items l }
 {
-    lits.sort()?;
+    lits.sort_unstable();
     lits.dedup();
-    Ok(())
 }
 
-// Whether a literal stands beside its negation. In rising order these are neighbours.
-fn has_opposites(lits: &[Lit]) -> bool
+/// Whether a clause is in normal form already: its literals rise, and no variable stands twice. One
+/// pass, which takes no memory, so that such a clause can be handed on as it is.
+pub fn is_normal(lits: &[Lit]) -> bool
+    ensures { IsTrue result ↔ IsNormal lits.now }
+{
+    // Where the variables rise from each literal to the next, literals and variables rise all
+    // along.
+    for k in 1..lits.len() {
+        if lits[k - 1].var().index() >= lits[k].var().index() {
+            return false;
+        }
+    }
+    true
+}
+
+/// Whether a literal stands beside its negation. In rising order these are neighbours.
+pub fn has_opposites(lits: &[Lit]) -> bool
     requires { IsStrictlyIncreasing lits.now }
     ensures some { result ≡ true → IsTautology lits.now }
     ensures none { result ≡ false → IsNormal lits.now }
@@ -35,15 +48,20 @@ fn has_opposites(lits: &[Lit]) -> bool
     false
 }
 
-/// The normal form of a clause: the same literals, sorted and without repeats. `None` exactly where a literal and its negation are
-/// among them, so that every assignment makes the clause true. The literals may stand in any order and repeat; n of them take the
-/// time of a sort, n log n steps.
+/// The normal form of a clause: the same literals, sorted and without repeats. `None` exactly where
+/// a literal and its negation are among them, so that every assignment makes the clause true. The
+/// literals may stand in any order and repeat; n of them take the time of a sort, n log n steps,
+/// and one pass where they are in normal form already.
 pub fn normal_form(alloc: Global, lits: &[Lit]) -> Result<Option<Lits>, Memory>
     ensures some { IfOk result (λ found. IfSome found (λ form. IsFormOf form lits.now)) }
     ensures none { IfOk result (λ found. IfNone found (IsTautology lits.now)) }
 {
+    if is_normal(lits) {
+        let form = Lits::from_slice(alloc, lits)?;
+        return Ok(Some(form));
+    }
     let mut sorted = Vec::from_slice(alloc, lits)?;
-    rise(&mut sorted)?;
+    sort_and_dedup(&mut sorted);
     if has_opposites(sorted.as_slice()) {
         return Ok(None);
     }

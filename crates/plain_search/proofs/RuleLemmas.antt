@@ -1,6 +1,7 @@
 -- Assumptions as clauses of one literal.
 use Rattle.std.proofs.Common.{◌≡◌, ◌∙◌, sym, refl, arith, ℕ, ◌+◌, ◌-◌, ◌<◌, ◌≤◌, Bool, true, false, List, [], ◌∷◌, length, Some, get_or, take, drop, zero, suc}
 use Rattle.std.specs.Prelude.{All, slice_get, ◌||◌, ◌&&◌}
+use Rattle.std.proofs.Math.Bool.{or-false}
 use Rattle.sat_terms.specs.Literal.{var_of}
 use Rattle.sat_terms.specs.Truth.{Assignment, lit_true, lits_true, clauses_true}
 use Rattle.sat_terms.specs.Answer.{Satisfies, Within, NoModel}
@@ -22,14 +23,10 @@ rule_clause [] clauses k h = let e : k - 0 ≡ k = omega arith in rw e refl
 rule_clause (l ∷ assumed) clauses zero h = absurd (omega arith)
 rule_clause (l ∷ assumed) clauses (suc k) h = let e : suc k - suc (length assumed) ≡ k - length assumed = omega arith in rw e (rule_clause assumed clauses k (omega arith))
 
-one_literal : (b : Bool) → (b || false) ≡ b
-one_literal true = refl
-one_literal false = refl
-
 -- the rules are true where the assumptions and the clauses are
 pub rules_true : (f : Assignment) (assumed : List ℕ) (clauses : List (List ℕ)) → clauses_true f (rules assumed clauses) ≡ (lits_true f assumed && clauses_true f clauses)
 rules_true f [] clauses = refl
-rules_true f (l ∷ assumed) clauses = rw (one_literal (lit_true f l), rules_true f assumed clauses) (assoc (lit_true f l) (lits_true f assumed) (clauses_true f clauses))
+rules_true f (l ∷ assumed) clauses = rw (or-false (lit_true f l), rules_true f assumed clauses) (assoc (lit_true f l) (lits_true f assumed) (clauses_true f clauses))
   where
     assoc : (a b c : Bool) → (a && (b && c)) ≡ ((a && b) && c)
     assoc true b c = refl

@@ -6,7 +6,8 @@ use Rattle.sat_terms.specs.Literal.{has, pos_lit, neg_lit}
 use Rattle.redundancy.specs.Setting.{set_true}
 use Rattle.redundancy.specs.Redundancy.{Entry, And, StackTrue, Witnesses, With, Chain, Clean, extend, Unmentioned}
 use Rattle.sat_terms.proofs.Truths.{clause_true-from}
-use Rattle.redundancy.proofs.Setting.{set_true-in, clause_true-kept, neg-neg_lit, neg-pos_lit}
+use Rattle.sat_terms.proofs.Literals.{neg-pos_lit, neg-neg_lit}
+use Rattle.redundancy.proofs.Setting.{set_true-in, clause_true-kept}
 
 -- the same assignments have the same witnesses
 pub Witnesses-same : (F G : Assignment → Type 0) (w d : List ℕ) → ((f : Assignment) → F f → G f) → ((f : Assignment) → G f → F f) → Witnesses F w d → Witnesses G w d

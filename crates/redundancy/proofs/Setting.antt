@@ -3,11 +3,13 @@ use Rattle.std.proofs.Common.{◌≡◌, ◌≢◌, ℕ, suc, zero, ◌+◌, ◌
 use Rattle.std.proofs.lemmas.Bool.{cases_Bool, cases_eq, or_left, or_right, or_parts, or_from, ne_eqb, eq-eqb}
 use Rattle.std.proofs.lemmas.List.Elements.{All-get_or}
 use Rattle.std.proofs.lemmas.List.Folds.{list_any_more}
+use Rattle.std.proofs.Math.Bool.{or-false, or-true}
 use Rattle.sat_terms.specs.Literal.{neg, var_of, has, pos_lit, neg_lit}
 use Rattle.sat_terms.specs.Truth.{Assignment, values, lit_true, clause_true}
 use Rattle.sat_terms.specs.Answer.{Within}
 use Rattle.sat_terms.proofs.Truths.{lit_true-even, lit_true-odd, clause_true-from, clause_true-some}
 use Rattle.sat_terms.proofs.Models.{values-set}
+use Rattle.sat_terms.proofs.Literals.{neg-neg_lit, var_of-pos_lit, var_of-neg_lit}
 use Rattle.redundancy.specs.Setting.{IsApart, set_true}
 
 -- truth of a literal under an assignment with literals set
@@ -60,22 +62,6 @@ unfolding var_of pos_lit neg_lit
 lit_cases x v e =
     elim (cases_eq (x % 2) 0) [ inl h ↦ inl (omega arith, h) | inr h ↦ inr (omega arith, omega arith) ]
 
-var_pos : (v : ℕ) → var_of (pos_lit v) ≡ v
-unfolding var_of pos_lit
-var_pos v = omega arith
-
-var_neg : (v : ℕ) → var_of (neg_lit v) ≡ v
-unfolding var_of neg_lit
-var_neg v = omega arith
-
-pub neg-neg_lit : (v : ℕ) → neg (neg_lit v) ≡ pos_lit v
-unfolding neg neg_lit pos_lit
-neg-neg_lit v = omega arith
-
-pub neg-pos_lit : (v : ℕ) → neg (pos_lit v) ≡ neg_lit v
-unfolding neg neg_lit pos_lit
-neg-pos_lit v = omega arith
-
 pos≢neg : (v : ℕ) → pos_lit v ≢ neg_lit v
 unfolding neg_lit pos_lit
 pos≢neg v e = absurd (omega arith)
@@ -96,14 +82,6 @@ has_here [] i x in' is = absurd (omega arith)
 has_here (y ∷ w) zero x in' is = or_left (eqb y x) (has w x) (eq-eqb y x (sym is))
 has_here (y ∷ w) (suc i) x in' is = or_right (eqb y x) (has w x) (has_here w i x (omega arith) is)
 
-or-no : (b : Bool) → (b || false) ≡ b
-or-no true = refl
-or-no false = refl
-
-or-yes : (b : Bool) → (b || true) ≡ true
-or-yes true = refl
-or-yes false = refl
-
 -- one literal more is set
 pub set_more : (f : Assignment) (m : List Bool) (w : List ℕ) (i x : ℕ) → IsApart w → Within (length m) w → i < length w → x ≡ get_or w i x → ((v : ℕ) → values m v ≡ set_true f (take i w) v)
     → (v : ℕ) → values (set m (var_of x - 1) (eqb (x % 2) 0)) v ≡ set_true f (take (i + 1) w) v
@@ -117,15 +95,15 @@ set_more f m w i x apart within in' is before v =
     elim (cases_eq (var_of x) v) [
       | inl e ↦
           elim (lit_cases x v e) [
-            | inl h ↦ rw (eq-eqb (var_of x) v e, p, eq-eqb x (pos_lit v) h.0, or-yes (has (take i w) (pos_lit v)), eq-eqb (x % 2) 0 h.1) refl
+            | inl h ↦ rw (eq-eqb (var_of x) v e, p, eq-eqb x (pos_lit v) h.0, or-true (has (take i w) (pos_lit v)), eq-eqb (x % 2) 0 h.1) refl
             | inr h ↦
                 let off : has (take i w) (pos_lit v) ≡ false = has_front i w (pos_lit v) (ap (has w) (sym (neg-neg_lit v) ∙ ap neg (sym h.0)) ∙ apart x here) in
                 let other : x ≢ pos_lit v = λ q. pos≢neg v (sym q ∙ h.0) in
                 let odd : eqb (x % 2) 0 ≡ false = ne_eqb (x % 2) 0 (λ z. absurd (let o = h.1 in omega arith)) in
-                rw (eq-eqb (var_of x) v e, p, n, eq-eqb x (neg_lit v) h.0, ne_eqb x (pos_lit v) other, off, or-yes (has (take i w) (neg_lit v)), odd) refl
+                rw (eq-eqb (var_of x) v e, p, n, eq-eqb x (neg_lit v) h.0, ne_eqb x (pos_lit v) other, off, or-true (has (take i w) (neg_lit v)), odd) refl
           ]
       | inr d ↦
-          let a : x ≢ pos_lit v = λ q. d (ap var_of q ∙ var_pos v) in
-          let b : x ≢ neg_lit v = λ q. d (ap var_of q ∙ var_neg v) in
-          rw (ne_eqb (var_of x) v d, p, n, ne_eqb x (pos_lit v) a, ne_eqb x (neg_lit v) b, or-no (has (take i w) (pos_lit v)), or-no (has (take i w) (neg_lit v))) (before v)
+          let a : x ≢ pos_lit v = λ q. d (ap var_of q ∙ var_of-pos_lit v) in
+          let b : x ≢ neg_lit v = λ q. d (ap var_of q ∙ var_of-neg_lit v) in
+          rw (ne_eqb (var_of x) v d, p, n, ne_eqb x (pos_lit v) a, ne_eqb x (neg_lit v) b, or-false (has (take i w) (pos_lit v)), or-false (has (take i w) (neg_lit v))) (before v)
     ]

@@ -4,31 +4,6 @@ use Rattle.std.proofs.lemmas.Bool.{or_cases, or_left, or_right, and_parts, and_f
 use Rattle.sat_terms.specs.Literal.{neg, has}
 use Rattle.redundancy.specs.Redundancy.{Entry, Clean, is_clean, touches}
 
--- membership in an appended list
-pub has-append_left : (c d : List ℕ) (l : ℕ) → has c l ≡ true → has (c ++ d) l ≡ true
-has-append_left [] d l h = absurd (false≢true h)
-has-append_left (x ∷ c) d l h =
-    elim (or_cases (eqb x l) (has c l) h) [
-      | inl e ↦ or_left (eqb x l) (has (c ++ d) l) e
-      | inr h' ↦ or_right (eqb x l) (has (c ++ d) l) (has-append_left c d l h')
-    ]
-
-pub has-append_right : (c d : List ℕ) (l : ℕ) → has d l ≡ true → has (c ++ d) l ≡ true
-has-append_right [] d l h = h
-has-append_right (x ∷ c) d l h = or_right (eqb x l) (has (c ++ d) l) (has-append_right c d l h)
-
-pub has-append_cases : (c d : List ℕ) (l : ℕ) → has (c ++ d) l ≡ true → (has c l ≡ true) ⊎ (has d l ≡ true)
-has-append_cases [] d l h = inr h
-has-append_cases (x ∷ c) d l h =
-    elim (or_cases (eqb x l) (has (c ++ d) l) h) [
-      | inl e ↦ inl (or_left (eqb x l) (has c l) e)
-      | inr h' ↦
-          elim (has-append_cases c d l h') [
-            | inl a ↦ inl (or_right (eqb x l) (has c l) a)
-            | inr b ↦ inr b
-          ]
-    ]
-
 -- what `touches` tests
 pub touches-some : (w c : List ℕ) → touches w c ≡ true → (l : ℕ) × (has c l ≡ true) × (has w (neg l) ≡ true)
 touches-some w [] h = absurd (false≢true h)

@@ -13,10 +13,6 @@ pub record Entry : Type 0 where
   pub witness : List ℕ
   pub clause : List ℕ
 
--- every assignment of F makes the clause true
-abbrev pub Implies : (Assignment → Type 0) → List ℕ → Type 0
-Implies F c = (f : Assignment) → F f → clause_true f c ≡ true
-
 -- the assignments of F that make a clause true
 abbrev pub And : (Assignment → Type 0) → List ℕ → Assignment → Type 0
 And F c f = F f × (clause_true f c ≡ true)

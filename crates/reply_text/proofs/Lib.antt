@@ -1,1 +1,1 @@
-pub mod Wrapping
+pub mod Numbers

@@ -5,7 +5,7 @@ use Rattle.std.proofs.lemmas.Bool.{false≢true, eqb-true}
 use Rattle.std.proofs.lemmas.List.{take-append-le, take_at, take-take, length-take-le}
 use Rattle.std.proofs.Math.Bool.{or-false}
 use Rattle.sat_terms.specs.Literal.{has, neg}
-use Rattle.sat_terms.specs.Truth.{Assignment, lit_true}
+use Rattle.sat_terms.specs.Truth.{Assignment, lit_true, Implies}
 use Rattle.clause_store.specs.Stored.{Stored, StoreTrue, Fills, slot, slot_lits}
 use Rattle.trail_state.specs.declared.trail.Step.{Step}
 use Rattle.trail_state.specs.declared.reason.Reason.{Reason}
@@ -17,7 +17,6 @@ use Rattle.trail_state.proofs.Backing.{step_take}
 use Rattle.trail_state.proofs.Levels.{decided}
 use Rattle.rooted_trails.specs.Rooted.{RootedBy, Rooted}
 use Rattle.rooted_trails.specs.Marks.{RootFollows}
-use Rattle.redundancy.specs.Redundancy.{Implies}
 use Rattle.rooted_trails.proofs.Falses.{place_in_front, false_by_neg, resolved}
 
 -- a live clause is implied

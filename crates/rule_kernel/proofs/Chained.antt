@@ -1,15 +1,15 @@
 -- Each rule keeps the chain.
-use Rattle.std.proofs.Common.{◌≡◌, ℕ, ◌+◌, ◌<◌, Bool, true, false, not, List, [], ◌∷◌, ◌++◌, length, drop, Option, Some, None, IsSome, refl, add-one}
+use Rattle.std.proofs.Common.{◌≡◌, ℕ, ◌+◌, ◌<◌, Bool, true, false, not, List, [], ◌∷◌, ◌++◌, length, drop, Option, Some, None, IsSome, refl, sym, add-one}
 use Rattle.std.specs.List.{remove}
 use Rattle.std.proofs.lemmas.Bool.{false≢true}
-use Rattle.sat_terms.specs.Truth.{Assignment}
+use Rattle.sat_terms.specs.Truth.{Assignment, Implies}
 use Rattle.sat_terms.specs.Normal.{IsNormal}
-use Rattle.redundancy.specs.Redundancy.{Entry, Witnesses, Chain, Clean, Implies, And, IsEntry, entry, no_entry}
+use Rattle.redundancy.specs.Redundancy.{Entry, Witnesses, Chain, Clean, And, IsEntry, entry, no_entry}
 use Rattle.redundancy.proofs.Chains.{Witnesses-same, Chain-same, Chain-add, Chain-park, Chain-restore}
-use Rattle.clause_store.specs.Stored.{Stored, slot, slot_lits, is_firm, is_redundant, keeps_firm, SlotTrue, FirmTrue, OthersTrue, Fills, Frees}
-use Rattle.clause_store.proofs.Slots.{FirmTrue-from, OthersTrue-from, FirmTrue-filled, FirmTrue-before, FirmTrue-freed, OthersTrue-freed}
+use Rattle.clause_store.specs.Stored.{Stored, slot, slot_lits, is_firm, is_redundant, keeps_firm, SlotTrue, FirmTrue, OthersTrue, Fills, Frees, SameSlots}
+use Rattle.clause_store.proofs.Slots.{FirmTrue-from, OthersTrue-from, FirmTrue-filled, FirmTrue-before, FirmTrue-freed, OthersTrue-freed, FirmTrue-same}
 use Rattle.rule_kernel.specs.State.{State, IsChained}
-use Rattle.rule_kernel.specs.Rules.{firm_clause, redundant_clause, Rule, Add, AddImplied, DropImplied, Park, Restore, Learn, Forget, Applies, RulesKeepChain}
+use Rattle.rule_kernel.specs.Rules.{firm_clause, redundant_clause, Rule, Add, AddImplied, DropImplied, Park, Restore, Learn, Forget, Applies, SameButMarks, RulesKeepChain}
 
 -- an id of a firm clause, or of a redundant one, is live
 pub live_from_firm : (x : Option Stored) → is_firm x ≡ true → IsSome x
@@ -97,11 +97,19 @@ applied (Restore k id) old new h r = rw r.stack (chain_restored _ _ _ _ _ r.with
 applied (Learn lits glue id) old new h r = rw r.rest.stack (chain_learned _ _ _ _ _ _ r.store h)
 applied (Forget id) old new h r = rw r.rest.stack (chain_forgotten _ _ _ _ r.store r.redundant h)
 
+-- so does a change of marks
+pub unmarked : (old new : State) → SameButMarks old new → IsChained old → IsChained new
+unmarked old new same h = rw (same.store, same.rest.stack) h
+
 -- so do all lists of rules
 pub rules_keep : RulesKeepChain
-rules_keep [] old new h run = rw run h
-rules_keep (rule ∷ rules) old new h run = rules_keep rules run.0 new (applied rule old run.0 h run.1) run.2
+rules_keep [] old new h run = unmarked old new run h
+rules_keep (rule ∷ rules) old new h run = rules_keep rules run.1 new (applied rule run.0 run.1 (unmarked old run.0 run.2 h) run.3) run.4
 
--- what an entry needs
-pub entry_of : (old : List (Option Stored)) (id : ℕ) (w : List ℕ) → Witnesses (OthersTrue old id) w (slot_lits (slot old id)) → IsNormal (slot_lits (slot old id)) → IsEntry (record { witness = w; clause = slot_lits (slot old id) })
-entry_of old id w wit normal = record { apart = wit.apart; normal = normal; shared = wit.shared }
+-- where every id names what it did
+pub chain_kept : (old new : List (Option Stored)) (s : List Entry) → SameSlots old new → Chain (FirmTrue old) s → Chain (FirmTrue new) s
+chain_kept old new s same h =
+    Chain-same (FirmTrue old) (FirmTrue new) s
+    (λ f x. FirmTrue-same old new f same x)
+    (λ f x. FirmTrue-same new old f (λ id. sym (same id)) x)
+    h

@@ -1,3 +1,4 @@
-pub mod Flags
 pub mod Chained
 pub mod Examples
+pub mod Keeping
+pub mod Marking

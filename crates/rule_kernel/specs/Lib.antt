@@ -1,3 +1,4 @@
+pub mod Changes
 pub mod Frozen
-pub mod State
 pub mod Rules
+pub mod State

@@ -1,7 +1,11 @@
-//! Sets of variables.
+//! Sets of variables that passes leave alone.
+//!
+//! A witness on a variable that the caller may still ask for, by an assumption or in a new clause, would have its entry restored at once:
+//! so such a variable is frozen for a pass.
 ghost use Rattle.std.specs.Prelude.{◌≡◌, ◌||◌, ◌==◌, ℕ, false, OnErr, OnOk};
 ghost use Rattle.rule_kernel.specs.Frozen.{is_frozen};
 
+use flag_set::set::FlagSet;
 use sat_model::literal::Var;
 use sat_model::memory::Memory;
 use std::alloc::Global;
@@ -11,7 +15,7 @@ use std::marker::Model;
 /// them.
 #[derive(Drop)]
 pub struct Frozen {
-    flags: Vec<bool>,
+    vars: FlagSet<Var>,
 }
 
 impl Model for Frozen {
@@ -19,7 +23,7 @@ impl Model for Frozen {
 
     ghost Value = { List Bool };
 
-    ghost view = { λ s. s.flags.items };
+    ghost view = { λ s. s.vars };
 }
 
 impl Frozen {
@@ -28,7 +32,7 @@ impl Frozen {
         ensures { (v : ℕ) → is_frozen result v ≡ false }
     {
         Frozen {
-            flags: Vec::new(alloc),
+            vars: FlagSet::new(alloc),
         }
     }
 
@@ -36,8 +40,7 @@ impl Frozen {
     pub fn has(&self, var: Var) -> bool
         ensures { result ≡ is_frozen self.now var }
     {
-        let at = var.index() as usize;
-        at < self.flags.len() && self.flags[at]
+        self.vars.has(var)
     }
 
     /// Puts a variable into the set. After `Memory` the set is as before.
@@ -45,11 +48,13 @@ impl Frozen {
         ensures ok { OnOk result ((v : ℕ) → is_frozen self.new v ≡ (var == v || is_frozen self.old v)) }
         ensures err { OnErr result (self.new ≡ self.old) }
     {
-        let at = var.index() as usize;
-        if at >= self.flags.len() {
-            self.flags.resize(at + 1, false)?;
-        }
-        self.flags[at] = true;
-        Ok(())
+        self.vars.put(var)
+    }
+
+    /// Takes all variables out of the set. It costs as many steps as variables were frozen since it was new or cleared.
+    pub fn clear(&mut self)
+        ensures { (v : ℕ) → is_frozen self.new v ≡ false }
+    {
+        self.vars.clear();
     }
 }

@@ -2,6 +2,7 @@
 //! clauses can be extended to one of the clauses on the stack.
 #![tactic(auto)]
 
+mod changes;
 pub mod frozen;
 pub mod kernel;
 pub mod laws;

@@ -1,5 +1,7 @@
-//! The happy path of each call.
-ghost use Rattle.std.specs.Prelude.{◌≡◌, ℕ, [], None, OnOk};
+//! Clauses that come, go, are parked and restored, and models that are extended; tall stacks of clauses of six literals, which is more
+//! than lie in an entry itself; and what is marked.
+ghost use Rattle.std.specs.Prelude.{◌≡◌, ℕ, [], None, OnOk, IfOk};
+ghost use Rattle.sat_terms.specs.Normal.{IsNormal};
 ghost use Rattle.redundancy.specs.Redundancy.{StackWithin};
 ghost use Rattle.clause_store.specs.Stored.{slot};
 
@@ -7,6 +9,7 @@ use crate::frozen::Frozen;
 use crate::kernel::Kernel;
 use sat_model::lists::ClauseId;
 use sat_model::literal::{Lit, Var};
+use std::alloc::Global;
 use std::test::Fail;
 
 // Adds the clause of two literals whose variables rise, where it is clean, and parks it with the first of them.
@@ -51,6 +54,87 @@ fn come_and_go(kernel: &mut Kernel, low: Lit, high: Lit, other: Lit) -> Result<C
     Ok(first)
 }
 
+// The clause of the positive literals of variables in a row.
+fn row(alloc: Global, first: u32, end: u32) -> Result<Vec<Lit>, Fail>
+    ensures { IfOk result (λ lits. IsNormal lits.items) }
+{
+    let mut lits = Vec::new(alloc);
+    for n in first..end {
+        match Var::new(n) {
+            Some(var) => lits.push(var.positive())?,
+            None => return Err("no variable")?,
+        }
+    }
+    Ok(lits)
+}
+
+// Adds the clause of six variables in a row, where it is clean, and parks it with the first of them.
+fn park_row(kernel: &mut Kernel, alloc: Global, first: u32) -> Result<(), Fail>
+    requires { (id : ℕ) → slot kernel.old.store id ≡ None }
+    ensures { OnOk result ((id : ℕ) → slot kernel.new.store id ≡ None) }
+{
+    let lits = row(alloc, first, first.saturating_add(6))?;
+    if lits.len() == 0 || !kernel.is_clean(lits.as_slice()) {
+        return Err("the clause may not be added")?;
+    }
+    let witness = lits[0];
+    let id = kernel.add(lits.as_slice())?;
+    kernel.park(id, &[witness])?;
+    Ok(())
+}
+
+// Parks 300 such clauses, each two variables further.
+fn park_rows(kernel: &mut Kernel, alloc: Global) -> Result<(), Fail>
+    requires { kernel.old.store ≡ [] }
+{
+    for n in 0..300u32 {
+        park_row(kernel, alloc, 2 * n + 1)?;
+    }
+    Ok(())
+}
+
+// Restores the entry at a place, where its clause is clean for the whole stack.
+fn restore_at(kernel: &mut Kernel, k: usize) -> Result<ClauseId, Fail> {
+    if k >= kernel.stack().len() || !kernel.is_clean(kernel.stack().clause(k)) {
+        return Err("the entry may not be restored")?;
+    }
+    Ok(kernel.restore(k)?)
+}
+
+// Restores every second entry, from the newest to the oldest.
+fn restore_every_second(kernel: &mut Kernel) -> Result<(), Fail> {
+    for k in (0..kernel.stack().len()).rev() {
+        if k % 2 == 1 {
+            restore_at(kernel, k)?;
+        }
+    }
+    Ok(())
+}
+
+// Takes all marks off.
+fn unmark_all(kernel: &mut Kernel) {
+    for _turn in 0..kernel.marked_vars().len() {
+        if kernel.marked_vars().len() > 0 {
+            kernel.unmark_var(kernel.marked_vars()[0]);
+        }
+    }
+    for _turn in 0..kernel.marked_lits().len() {
+        if kernel.marked_lits().len() > 0 {
+            kernel.unmark_lit(kernel.marked_lits()[0]);
+        }
+    }
+}
+
+// How many clauses are firm, and how many stand on the stack; how many variables are marked, and how many literals.
+fn figures(kernel: &Kernel) -> [usize; 4] {
+    [
+        kernel.store().firm_ids().len(),
+        kernel.stack().len(),
+        kernel.marked_vars().len(),
+        kernel.marked_lits().len(),
+    ]
+}
+
 // Whether the store has one firm clause, of this id and these literals.
 fn has_only(kernel: &Kernel, id: ClauseId, lits: &[Lit]) -> bool {
     let ids = kernel.store().firm_ids();
@@ -88,7 +172,23 @@ fn clauses_come_and_go(rt: HostRuntime) -> Result<(), Fail> {
     let first = come_and_go(&mut kernel, one, two, five)?;
     assert!(rt; has_only(&kernel, first, &[one]));
     assert!(rt; kernel.store().redundant_ids().is_empty());
-    assert!(rt; kernel.removals() == 1 && kernel.restores() == 0);
+    // The learned clause marks nothing, and the one that was dropped its variables and the negations of its literals.
+    assert_eq!(rt; figures(&kernel), [1, 0, 2, 4]);
+    Ok(())
+}
+
+#[test]
+fn tall_stacks_of_long_clauses(rt: HostRuntime) -> Result<(), Fail> {
+    let mut kernel = Kernel::new(rt.alloc());
+    park_rows(&mut kernel, rt.alloc())?;
+    // Each clause came and went, so both literals of each variable are marked.
+    assert_eq!(rt; figures(&kernel), [0, 300, 604, 1208]);
+    unmark_all(&mut kernel);
+    assert_eq!(rt; figures(&kernel), [0, 300, 0, 0]);
+    restore_every_second(&mut kernel)?;
+    kernel.compact()?;
+    assert_eq!(rt; figures(&kernel), [150, 150, 602, 602]);
+    assert_eq!(rt; [kernel.removals(), kernel.restores()], [300, 150]);
     Ok(())
 }
 

@@ -1,5 +1,5 @@
 //! Lists of literals, of clauses and of ids of clauses.
-ghost use Rattle.std.specs.Prelude.{◌≡◌, ◌==◌, ◌<◌, [], ◌∷◌, ◌++◌, length, IfOk, OnOk, OnErr, slice_get, slice_index, Some};
+ghost use Rattle.std.specs.Prelude.{◌≡◌, ◌==◌, ◌<◌, ◌^◌, [], ◌∷◌, ◌++◌, length, IfOk, OnOk, OnErr, slice_get, slice_index, Some};
 
 use crate::literal::Lit;
 use crate::memory::Memory;
@@ -121,10 +121,10 @@ impl Clauses {
     }
 }
 
-/// The number of a stored clause.
+/// The number of a stored clause, below 2^32: ids fill lists of occurrences, watches and reasons, where half a word counts.
 #[derive(Clone, Copy, Debug, PartialEq, Eq, PartialOrd, Ord, Hash)]
 pub struct ClauseId {
-    index: usize,
+    index: u32,
 }
 
 impl Model for ClauseId {
@@ -138,18 +138,21 @@ impl Model for ClauseId {
 }
 
 impl ClauseId {
-    /// The id of this number.
+    /// The id of a number below 2^32.
     pub fn new(index: usize) -> ClauseId
+        requires { index < 2 ^ 32 }
         ensures { result ≡ index }
     {
-        ClauseId { index }
+        ClauseId {
+            index: index as u32,
+        }
     }
 
     /// Its number.
     pub fn index(self) -> usize
         ensures { result ≡ self }
     {
-        self.index
+        self.index as usize
     }
 }
 

@@ -1,3 +1,6 @@
+//! What no clause says of literals, lists and truth: the numbers that DIMACS writes, what is no literal, and that answers come with
+//! lists that do not lie in place.
+
 use crate::constraint::{Constraint, Kind};
 use crate::lists::{ClauseId, Clauses, Ids, Lits};
 use crate::literal::{Lit, MAX_VAR, Var};

@@ -1,3 +1,4 @@
 pub mod Literals
 pub mod Truths
 pub mod Models
+pub mod Members

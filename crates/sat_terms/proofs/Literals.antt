@@ -1,7 +1,7 @@
 -- Laws of literals. They say all that is known of codes: no proof above this crate opens `neg`, `var_of` and their kin.
 use Rattle.std.proofs.Common.{◌≡◌, ℕ, ◌+◌, ◌%◌, ◌⊎◌, inl, inr, arith}
 use Rattle.std.proofs.lemmas.Bool.{cases_eq}
-use Rattle.sat_terms.specs.Literal.{neg, var_of, pos_lit}
+use Rattle.sat_terms.specs.Literal.{neg, var_of, pos_lit, neg_lit}
 
 -- the two forms of a literal
 pub neg_cases : (l : ℕ) → ((l % 2 ≡ 0) × (neg l ≡ l + 1)) ⊎ ((l % 2 ≡ 1) × (neg l + 1 ≡ l))
@@ -29,3 +29,15 @@ same_var l k h = elim (cases_eq l k) [ inl e ↦ inl e | inr n ↦ inr (omega ar
 pub var_of-pos_lit : (v : ℕ) → var_of (pos_lit v) ≡ v
 unfolding var_of pos_lit
 var_of-pos_lit v = omega arith
+
+pub var_of-neg_lit : (v : ℕ) → var_of (neg_lit v) ≡ v
+unfolding var_of neg_lit
+var_of-neg_lit v = omega arith
+
+pub neg-pos_lit : (v : ℕ) → neg (pos_lit v) ≡ neg_lit v
+unfolding neg neg_lit pos_lit
+neg-pos_lit v = omega arith
+
+pub neg-neg_lit : (v : ℕ) → neg (neg_lit v) ≡ pos_lit v
+unfolding neg neg_lit pos_lit
+neg-neg_lit v = omega arith

@@ -1,6 +1,6 @@
 -- Truth under an assignment (DIMACS).
 use Rattle.std.specs.List.{list_any, list_all}
-use Rattle.std.specs.Prelude.{ℕ, ◌/◌, ◌%◌, ◌==◌, Bool, false, if◌then◌else◌, not, List, ◌∷◌, slice_index_or}
+use Rattle.std.specs.Prelude.{◌≡◌, ℕ, ◌/◌, ◌%◌, ◌==◌, Bool, true, false, if◌then◌else◌, not, List, ◌∷◌, slice_index_or}
 
 -- An assignment says of each variable whether it is true.
 abbrev pub Assignment : Type 0
@@ -26,3 +26,7 @@ lits_true f ls = list_all (lit_true f) ls
 -- all of the clauses are true
 abbrev pub clauses_true : Assignment → List (List ℕ) → Bool
 clauses_true f cs = list_all (clause_true f) cs
+
+-- every assignment of F makes the clause true
+abbrev pub Implies : (Assignment → Type 0) → List ℕ → Type 0
+Implies F c = (f : Assignment) → F f → clause_true f c ≡ true

@@ -1,19 +1,26 @@
 //! The solver against plain backtracking.
+//!
+//! One test answers a few thousand small scripts both ways. The other one asks a single solver,
+//! first a query that takes more than two thousand conflicts, so that restarts, the stable half and a
+//! reduction are reached, and then some more over what is left of that.
 ghost use Rattle.std.specs.Prelude.{◌≤◌, ◌^◌, All, IsTrue};
 ghost use Rattle.sat_terms.specs.Answer.{Within};
 
 use crate::draw::Draw;
 use plain_search::search::search;
 use sat_model::lists::Lits;
-use sat_model::literal::Lit;
+use sat_model::literal::{Lit, Var};
 use sat_model::truth::{clause_true, lit_true};
 use solver_api::calls::{Budget, NO_BUDGET, Outcome};
 use solver_api::solver::Solver;
 use std::alloc::Global;
 use std::test::Fail;
 
+// The greatest variable of all tests.
+const MOST_VARS: u32 = 57;
+
 // The greatest variable of a script, how many scripts there are, and how many statements each has.
-const MOST_VARS: u32 = 9;
+const SCRIPT_VARS: u32 = 9;
 
 const SCRIPTS: u64 = 3000;
 
@@ -35,13 +42,13 @@ struct Counts {
 }
 
 fn are_within(lits: &[Lit]) -> bool
-    ensures { IsTrue result → Within 9 lits.now }
+    ensures { IsTrue result → Within 57 lits.now }
 {
     lits.iter().all(|lit| lit.var().index() <= MOST_VARS)
 }
 
 fn all_within(clauses: &[Lits]) -> bool
-    ensures { IsTrue result → All (Within 9) clauses.now }
+    ensures { IsTrue result → All (Within 57) clauses.now }
 {
     clauses.iter().all(|clause| are_within(clause.as_slice()))
 }
@@ -92,7 +99,8 @@ fn solve(solver: &mut Solver, assumed: &[Lit], budget: Budget) -> Result<Outcome
     Ok(solver.solve(budget, 1000)?)
 }
 
-// Whether the solver's last answer is that of plain backtracking, with a model or a core that fits. Unknown fits always.
+// Whether the solver's last answer is that of plain backtracking, with a model or a core that fits.
+// Unknown fits always.
 fn fits(
     alloc: Global,
     solver: &Solver,
@@ -149,7 +157,7 @@ fn ask(
 // Clauses and queries in turn, as drawn from a seed. Few clauses are empty.
 fn compare(alloc: Global, seed: u64, counts: &mut Counts) -> Result<(), Fail> {
     let mut draw = Draw::new(seed);
-    let vars = draw.below(MOST_VARS - 2).saturating_add(3);
+    let vars = draw.below(SCRIPT_VARS - 2).saturating_add(3);
     let mut solver = Solver::new(alloc)?;
     let mut clauses = Vec::new(alloc);
     for _ in 0..STATEMENTS {
@@ -168,6 +176,107 @@ fn compare(alloc: Global, seed: u64, counts: &mut Counts) -> Result<(), Fail> {
             ask(alloc, &mut solver, &clauses, assumed.as_slice(), counts)?;
         }
     }
+    Ok(())
+}
+
+// So many holes, and one pigeon more.
+const HOLES: u32 = 7;
+
+// How many queries follow.
+const QUERIES: u32 = 12;
+
+// The literal that a pigeon sits in a hole.
+fn sits(pigeon: u32, hole: u32) -> Result<Lit, Fail> {
+    let number = pigeon
+        .saturating_mul(HOLES)
+        .saturating_add(hole)
+        .saturating_add(1);
+    let var = Var::new(number).ok_or("no variable")?;
+    Ok(var.positive())
+}
+
+// The literal under which the last pigeon has a hole.
+fn guard() -> Result<Lit, Fail> {
+    sits(HOLES, HOLES)
+}
+
+// Gives a clause to the solver and to the list.
+fn give(solver: &mut Solver, clauses: &mut Vec<Lits>, clause: Lits) -> Result<(), Fail> {
+    solver.add(clause.as_slice())?;
+    clauses.push(clause)?;
+    Ok(())
+}
+
+// The clause that a pigeon has a hole; the last one has, if the guard is true.
+fn has_hole(alloc: Global, pigeon: u32) -> Result<Lits, Fail> {
+    let mut clause = Lits::new(alloc);
+    for hole in 0..HOLES {
+        clause.push(sits(pigeon, hole)?)?;
+    }
+    if pigeon == HOLES {
+        clause.push(guard()?.neg())?;
+    }
+    Ok(clause)
+}
+
+// Gives the clauses that a pigeon has a hole, and that it shares it with no pigeon before it.
+fn give_pigeon(
+    alloc: Global,
+    solver: &mut Solver,
+    clauses: &mut Vec<Lits>,
+    pigeon: u32,
+) -> Result<(), Fail> {
+    give(solver, clauses, has_hole(alloc, pigeon)?)?;
+    for other in 0..pigeon {
+        for hole in 0..HOLES {
+            let pair = [sits(pigeon, hole)?.neg(), sits(other, hole)?.neg()];
+            give(solver, clauses, Lits::from_slice(alloc, &pair)?)?;
+        }
+    }
+    Ok(())
+}
+
+// Asks what is left of the pigeons, under assumptions that are drawn. The guard is none of them.
+fn ask_more(
+    alloc: Global,
+    solver: &mut Solver,
+    clauses: &Vec<Lits>,
+    counts: &mut Counts,
+) -> Result<(), Fail> {
+    let mut draw = Draw::new(1);
+    for _ in 0..QUERIES {
+        let size = draw.below(9);
+        let assumed = draw.literals(alloc, MOST_VARS - 1, size)?;
+        ask(alloc, solver, clauses, assumed.as_slice(), counts)?;
+    }
+    Ok(())
+}
+
+#[test]
+fn goes_on_after_many_conflicts(rt: HostRuntime) -> Result<(), Fail> {
+    let alloc = rt.alloc();
+    let mut solver = Solver::new(alloc)?;
+    let mut clauses = Vec::new(alloc);
+    for pigeon in 0..HOLES + 1 {
+        give_pigeon(alloc, &mut solver, &mut clauses, pigeon)?;
+    }
+    // Without the guard the pigeons have holes, so the guard is the core.
+    let last = guard()?;
+    let found = solve(&mut solver, &[last], NO_BUDGET)?;
+    let core = solver.core()?;
+    let fit = core.len() == 1 && core.iter().all(|lit| *lit == last);
+    // The focused half of the first phase has 1000 conflicts, so the stable one has begun; the first reduction comes after 2000.
+    let conflicts = solver.stats().conflicts;
+    assert!(rt; fit && matches!(found, Outcome::Unsat) && conflicts > 2000);
+    let mut counts = Counts {
+        models: 0,
+        cores: 0,
+        unknown: 0,
+        unfit: 0,
+    };
+    ask_more(alloc, &mut solver, &clauses, &mut counts)?;
+    assert_eq!(rt; counts.unfit, 0);
+    assert!(rt; counts.models > 5 && counts.cores > 5);
     Ok(())
 }
 

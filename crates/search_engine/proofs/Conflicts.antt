@@ -1,13 +1,13 @@
 -- What a learned clause changes.
 use Rattle.std.proofs.Common.{◌≡◌, ◌≢◌, ℕ, suc, ◌<◌, ◌≤◌, true, false, ◌||◌, eqb, List, [], ◌∷◌, ◌++◌, length, get_or, take, inl, inr, refl, sym, ap, ◌∙◌, subst, arith, Option, Some, None}
-use Rattle.std.specs.Prelude.{IsSome}
+use Rattle.std.specs.Prelude.{IsSome, is_some}
 use Rattle.std.proofs.lemmas.Bool.{false≢true, cases_eq, or_right, eq-eqb, ne_eqb}
 use Rattle.std.proofs.lemmas.List.{length-take-le, take-take, take-append-le}
 use Rattle.std.proofs.Math.Bool.{or-false}
 use Rattle.sat_terms.specs.Literal.{has, neg, var_of}
 use Rattle.sat_terms.specs.Answer.{Within, IsSubsequence, IsCore}
 use Rattle.sat_terms.proofs.Literals.{var_of-neg}
-use Rattle.redundancy.specs.Redundancy.{Implies}
+use Rattle.sat_terms.specs.Truth.{Implies}
 use Rattle.clause_store.specs.Stored.{Stored, slot, slot_lits, is_firm, StoreTrue, Fills}
 use Rattle.clause_store.proofs.Slots.{StoreTrue-filled}
 use Rattle.normal_form.proofs.Members.{has_at}
@@ -24,11 +24,15 @@ use Rattle.rooted_trails.proofs.Blocking.{root_true}
 use Rattle.rooted_trails.proofs.Reasons.{rooted_back, rooted_push, rooted_filled, live_filled, live_implied, unit_reason, root_follows}
 use Rattle.watch_lists.specs.Propagation.{Watching, Follows}
 use Rattle.conflict_analysis.specs.Counting.{Counted}
+use Rattle.conflict_analysis.specs.Walking.{Resolvent}
 use Rattle.conflict_analysis.specs.Learning.{lit_level, IsAsserting, Owes}
 use Rattle.conflict_analysis.proofs.Highests.{level_here}
 use Rattle.conflict_analysis.proofs.Returns.{false_kept, back_frees}
 use Rattle.search_engine.specs.declared.state.Core.{Core}
-use Rattle.search_engine.specs.Searching.{StoreWithin, AttachesLive, IsReady, Learns, Keeps}
+use Rattle.decide_order.specs.Ordering.{Ordered}
+use Rattle.search_policy.specs.Plan.{Plan}
+use Rattle.search_engine.specs.Searching.{StoreWithin, AttachesLive, IsReady, IsOrderly, Learns, Keeps}
+use Rattle.search_engine.proofs.Keeping.{learns_same, keeps_ready}
 use Rattle.search_engine.specs.Turns.{AssumesFirst, Jumped}
 use Rattle.search_engine.proofs.Jumps.{jumped_from}
 
@@ -39,6 +43,13 @@ false_named t l room off =
     let v : var_of (step t.steps p.0).lit ≡ var_of l = ap var_of p.2 ∙ var_of-neg l in
     let h = room.named p.0 p.1 in
     (let low = h.0 in omega arith, let high = h.1 in omega arith)
+
+pub false_watched : (t : Trace) (c : List ℕ) (n : ℕ) → HasRoom t → FalseOn t.steps c → t.declared ≤ n → Within n c
+false_watched t c n room off le k d in' =
+    let named = false_named t (get_or c k d) room (off (get_or c k d) (has_at c k d in')) in
+    let low = named.0 in
+    let high = named.1 in
+    (omega arith, omega arith)
 
 pub false_within : (t : Trace) (c : List ℕ) → HasRoom t → FalseOn t.steps c → Within t.declared c
 false_within t c room off k d in' = false_named t (get_or c k d) room (off (get_or c k d) (has_at c k d in'))
@@ -94,19 +105,28 @@ first_push assumptions t x implied first i in' dec =
     ]
 
 -- what a search needs stays where its trail goes back
-pub ready_back : (assumptions : List ℕ) (core : Core) (t : Trace) (w : Watching) (tally : Counted) (level : ℕ) → IsReady assumptions core → IsBack core.trail t level
-    → w.attached ≡ core.watches.attached → w.declared ≡ core.watches.declared → Follows w core.store t → IsReady assumptions (record core { trail = t; watches = w; tally = tally })
-ready_back assumptions core t w tally level ready back same size following =
+pub ready_back : (assumptions : List ℕ) (core : Core) (t : Trace) (o : Ordered) (p : Plan) (w : Watching) (tally : Counted) (scratch : Resolvent) (level : ℕ) → IsReady assumptions core → IsBack core.trail t level
+    → w.attached ≡ core.watches.attached → w.declared ≡ core.watches.declared → Follows w core.store t → IsOrderly o t → o.declared ≡ core.order.declared → IsReady assumptions (record core { trail = t; order = o; policy = p; watches = w; tally = tally; scratch = scratch })
+ready_back assumptions core t o p w tally scratch level ready back same size following orderly known =
     let dec = back.declared in
     record {
       rooted = rooted_back core.store core.trail t level back ready.rooted;
       attached = rw same ready.attached;
+      none_listed = ready.none_listed;
       following = following;
       within = rw dec ready.within;
       assumed = rw dec ready.assumed;
       watched = (let h = ready.watched in omega arith);
       room = rw dec ready.room;
+      orderly = orderly;
+      decided = known ∙ ready.decided ∙ sym dec;
     }
+
+-- what a search keeps where its trail goes back
+pub keeps_back : (assumptions : List ℕ) (core : Core) (t : Trace) (o : Ordered) (p : Plan) (w : Watching) (tally : Counted) (scratch : Resolvent) (level : ℕ) → IsReady assumptions core → IsBack core.trail t level → w.attached ≡ core.watches.attached → w.declared ≡ core.watches.declared → Follows w core.store t
+    → IsOrderly o t → o.declared ≡ core.order.declared → Keeps core (record core { trail = t; order = o; policy = p; watches = w; tally = tally; scratch = scratch })
+keeps_back assumptions core t o p w tally scratch level ready back same size following orderly known =
+    keeps_ready assumptions core (record core { trail = t; order = o; policy = p; watches = w; tally = tally; scratch = scratch }) ready (ready_back assumptions core t o p w tally scratch level ready back same size following orderly known) (learns_same core.store) back.declared refl
 
 -- where a clause is false at the root, no assignment makes the stored clauses true
 pub root_conflict : (assumptions : List ℕ) (s : List (Option Stored)) (t : List Step) (top id level : ℕ) → Rooted s t → IsTrail t top → IsSome (slot s id) → FalseOn t (slot_lits (slot s id))
@@ -141,24 +161,8 @@ module _ {assumptions : List ℕ} {core : Core} {s : List (Option Stored)} {id :
   pub taught_within : StoreWithin core.trail.declared s
   taught_within = within_filled core.store s id c taught.fills core.trail.declared taught.ready.within (false_within core.trail c.lits taught.room taught.off)
 
-  pub taught_attachable : Within core.watches.declared (slot_lits (slot s id))
-  taught_attachable =
-      let filled = taught.fills.filled in
-      rw filled (λ k d in'.
-      let named = false_within core.trail c.lits taught.room taught.off k d in' in
-      let low = named.0 in
-      let high = named.1 in
-      let watched = taught.ready.watched in
-      (omega arith, omega arith))
-
-  pub taught_keeps : (t : Trace) (w : Watching) (tally : Counted) → Rooted s t.steps → t.declared ≡ core.trail.declared → Keeps core (record core { store = s; trail = t; watches = w; tally = tally })
-  taught_keeps t w tally rooted dec = record {
-    learns = learns_filled core.store s id c taught.fills taught.soft taught.implied;
-    rooted = rooted;
-    within = taught_within;
-    declared = dec;
-    size = refl;
-  }
+  pub taught_learns : Learns core.store s
+  taught_learns = learns_filled core.store s id c taught.fills taught.soft taught.implied
 
   pub taught_rooted : Rooted s core.trail.steps
   taught_rooted = rooted_filled core.store s id c taught.fills core.trail.steps taught.ready.rooted
@@ -202,16 +206,19 @@ module _ {assumptions : List ℕ} {core : Core} {s : List (Option Stored)} {id :
           let below = taught.asserts.below in
           jumped_from core.trail t level p.0 last.steps (record { lit = lit; level = t.level; reason = Clause id }) taught.shape back p.1 (omega arith) (λ q. cc) is
 
-      pub last_ready : (w : Watching) (tally : Counted) → last.declared ≡ core.trail.declared → ((k : ℕ) → has w.attached k ≡ (has core.watches.attached k || eqb id k)) → w.declared ≡ core.watches.declared
-          → Follows w s last → IsReady assumptions (record core { store = s; trail = last; watches = w; tally = tally })
-      last_ready w tally dec more size following = record {
+      pub last_ready : (o : Ordered) (w : Watching) (tally : Counted) → last.declared ≡ core.trail.declared → o.declared ≡ core.order.declared → ((k : ℕ) → has w.attached k ≡ (has core.watches.attached k || eqb id k)) → w.declared ≡ core.watches.declared
+          → Follows w s last → IsOrderly o last → IsReady assumptions (record core { store = s; trail = last; order = o; watches = w; tally = tally })
+      last_ready o w tally dec known more size following orderly = record {
         rooted = last_rooted;
         attached = attaches_filled core.store s id c taught.fills core.watches.attached w.attached taught.ready.attached more;
+        none_listed = taught.ready.none_listed;
         following = following;
         within = rw dec taught_within;
         assumed = rw dec taught.ready.assumed;
         watched = (let h = taught.ready.watched in omega arith);
         room = rw dec taught.ready.room;
+        orderly = orderly;
+        decided = known ∙ taught.ready.decided ∙ sym dec;
       }
 
 -- the same, as the code reads it

@@ -4,3 +4,8 @@ pub mod Values
 pub mod Choices
 pub mod Looping
 pub mod Readying
+pub mod Orders
+pub mod Freeing
+pub mod Keeping
+pub mod Measures
+pub mod Counts

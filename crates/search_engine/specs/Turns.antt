@@ -1,17 +1,18 @@
 -- Turns of a search.
-use Rattle.std.specs.List.{list_any}
-use Rattle.std.specs.Prelude.{◌≡◌, ◌≢◌, ◌⊎◌, ◌<◌, ◌≤◌, ℕ, Bool, true, false, List, [], ◌∷◌, ◌++◌, length, take, Option, None, IsSome}
-use Rattle.sat_terms.specs.Literal.{has, pos_lit}
-use Rattle.clause_store.specs.Stored.{Stored, slot, slot_lits, is_firm}
+use Rattle.std.specs.Prelude.{◌≡◌, ◌≢◌, ◌⊎◌, ◌+◌, ◌-◌, ◌*◌, ◌^◌, ◌<◌, ◌≤◌, ℕ, Bool, true, false, List, [], ◌∷◌, ◌++◌, length, take, Option, None}
+use Rattle.sat_terms.specs.Literal.{has}
+use Rattle.clause_store.specs.Stored.{Stored, slot}
 use Rattle.trail_state.specs.declared.trail.Step.{Step}
 use Rattle.trail_state.specs.declared.reason.Reason.TheVariants.{Decision}
-use Rattle.trail_state.specs.Trail.{step, true_on, value_on}
+use Rattle.trail_state.specs.Trail.{step, true_on}
 use Rattle.trail_state.specs.Rank.{rank}
+use Rattle.conflict_analysis.specs.Counting.{Counted}
+use Rattle.search_policy.specs.Plan.{restarts_left}
 use Rattle.search_engine.specs.declared.state.Core.{Core}
 use Rattle.search_engine.specs.declared.cursor.Cursor.{Cursor}
 use Rattle.search_engine.specs.declared.conflict.Turn.{Turn}
 use Rattle.search_engine.specs.declared.conflict.Turn.TheVariants.{Goes, Ends}
-use Rattle.search_engine.specs.Searching.{IsReady, FoundIs}
+use Rattle.search_engine.specs.Searching.{IsReady, CountsFrom, FoundIs}
 
 -- all of the literals are true on the trail
 abbrev pub AllOn : List Step → List ℕ → Type 0
@@ -46,28 +47,33 @@ pub record Jumped (old new : List Step) : Type 0 where
   pub implied : asserted.reason ≢ Decision
   pub steps : new ≡ take kept old ++ asserted ∷ []
 
--- A turn of a search goes on: the rank of the trail has risen.
+-- What a search has left, so many restarts over so many variables: one restart less counts for more than any rank of the trail.
+abbrev pub left_over : ℕ → ℕ → List Step → ℕ
+left_over restarts n t = restarts * 3 ^ n + (3 ^ n - rank n t)
+
+-- The measure of a search. Each decision and each propagated literal raises the rank of the trail, and so does the literal that
+-- is put in the place of a decision at a conflict. Only going back to the root lowers the rank, and the policy allows that so
+-- many times.
+abbrev pub measure : Core → ℕ
+measure c = left_over (restarts_left c.policy) c.trail.declared c.trail.steps
+
+-- A turn of a search goes on: its measure has fallen.
 pub record Next (assumptions : List ℕ) (old new : Core) : Type 0 where
   pub stands : IsBetweenTurns assumptions new
-  pub rises : RankRises old.trail.steps new.trail.steps
+  pub falls : measure new < measure old
 
--- the list holds the ids of the firm clauses, and no other
-abbrev pub NamesFirm : List ℕ → List (Option Stored) → Type 0
-NamesFirm ids s = (id : ℕ) → has ids id ≡ is_firm (slot s id)
+-- from whatever total the old tally counts, the new one does
+abbrev pub KeepsCount : Counted → Counted → Type 0
+KeepsCount old new = (before : ℕ) → CountsFrom before old → CountsFrom before new
 
--- some literal of the clause is true on the trail
-abbrev pub clause_on : List Step → List ℕ → Bool
-clause_on t c = list_any (true_on t) c
+-- The ids name nothing now, and every other id names what it did.
+pub record FreesAll (old new : List (Option Stored)) (ids : List ℕ) : Type 0 where
+  pub freed : (id : ℕ) → has ids id ≡ true → slot new id ≡ None
+  pub others : (id : ℕ) → has ids id ≡ false → slot new id ≡ slot old id
 
--- the clause of each of these ids has a literal that is true on the trail
-abbrev pub ClausesOn : List Step → List (Option Stored) → List ℕ → Type 0
-ClausesOn t s ids = (id : ℕ) → has ids id ≡ true → clause_on t (slot_lits (slot s id)) ≡ true
-
--- the assumptions before the cursor are true, so are the listed clauses before it, and the variables below it have values
-pub record Passed (assumptions firm : List ℕ) (c : Core) (cursor : Cursor) : Type 0 where
+-- the assumptions before the cursor are true
+pub record Passed (assumptions : List ℕ) (c : Core) (cursor : Cursor) : Type 0 where
   pub assumed : AllOn c.trail.steps (take cursor.assumption assumptions)
-  pub met : ClausesOn c.trail.steps c.store (take cursor.clause firm)
-  pub valued : (v : ℕ) → 0 < v → v < cursor.var → IsSome (value_on c.trail.steps (pos_lit v))
 
 -- what a turn leads to
 abbrev pub TurnIs : List ℕ → Core → Core → Turn → Type 0

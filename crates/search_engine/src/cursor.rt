@@ -1,12 +1,13 @@
 //! How far a search has looked.
+//!
+//! The assumptions before the cursor are true, and stay so until the trail goes back. So at a
+//! conflict the cursor begins anew, and between two conflicts each assumption is passed once.
 
-/// How far a search has looked since it last went back: the assumptions before this place are true, so are the firm clauses
-/// before this place of their list, and the variables below this one have values.
+/// How far a search has looked since it last went back: the assumptions before this place are true.
 #[derive(Clone, Copy)]
 pub(crate) struct Cursor {
+    // The first assumption that is not known to be true.
     pub(crate) assumption: usize,
-    pub(crate) clause: usize,
-    pub(crate) var: u32,
 }
 
 impl Cursor {
@@ -16,12 +17,8 @@ impl Cursor {
 
     // Nothing was looked at.
     pub(crate) fn start() -> Cursor
-        ensures { (assumptions firm : List ℕ) (core : Core) → Passed assumptions firm core result }
+        ensures { (assumptions : List ℕ) (core : Core) → Passed assumptions core result }
     {
-        Cursor {
-            assumption: 0,
-            clause: 0,
-            var: 1,
-        }
+        Cursor { assumption: 0 }
     }
 }

@@ -1,13 +1,23 @@
 //! The search.
+//!
+//! A turn propagates (Davis, Logemann and Loveland 1962). Where a clause becomes false, the search
+//! learns from it and goes back (conflict.rt). Else it decides: the assumptions come first, in
+//! their order, and each that is not yet true is decided on a level of its own (Eén and Sörensson,
+//! MiniSat, 2003). So where an assumption is false, all decisions are assumptions, and those that
+//! made it false are a core. Once all of them are true, the order of decisions picks. Where every
+//! variable has a value and no clause is false, the values are a model.
+//!
+//! The search ends since each turn lowers `measure` (specs/Turns.antt): the rank of the trail rises
+//! at a decision, at a propagated literal and where a decision gives way to an implied literal, and
+//! the policy allows only so many returns to the root.
 ghost use Rattle.std.specs.Prelude.{◌≡◌, ◌≤◌, ◌^◌, IfOk};
-ghost use Rattle.search_engine.specs.Searching.{IsReady, Keeps, FoundIs};
-ghost use Rattle.search_engine.specs.Turns.{NamesFirm, IsBetweenTurns, Passed, TurnIs};
+ghost use Rattle.search_engine.specs.Searching.{IsReady, Keeps, CountsFrom, FoundIs};
+ghost use Rattle.search_engine.specs.Turns.{IsBetweenTurns, Passed, KeepsCount, TurnIs};
 
 use crate::choice::choose;
 use crate::conflict::{Turn, resolve};
 use crate::cursor::Cursor;
 use crate::state::{Budget, Core, Found};
-use sat_model::lists::ClauseId;
 use sat_model::literal::Lit;
 use sat_model::memory::Memory;
 use std::alloc::Global;
@@ -15,58 +25,63 @@ use std::alloc::Global;
 // Propagates, and then learns from a false clause, or decides.
 fn take_turn(
     alloc: Global,
-    core: &mut Core,
+    state: &mut Core,
     assumptions: &[Lit],
-    firm: &[ClauseId],
     cursor: &mut Cursor,
 ) -> Result<Turn, Memory>
-    requires stands { IsBetweenTurns assumptions.now core.old }
-    requires listed { NamesFirm firm.now core.old.store }
-    requires passed { Passed assumptions.now firm.now core.old cursor.old }
-    ensures turn { IfOk result (TurnIs assumptions.now core.old core.new) }
-    ensures keeps { Keeps core.old core.new }
-    ensures budget { core.new.tally.budget ≡ core.old.tally.budget }
-    ensures passed { IfOk result (λ turn. Passed assumptions.now firm.now core.new cursor.new) }
+    requires stands { IsBetweenTurns assumptions.now state.old }
+    requires passed { Passed assumptions.now state.old cursor.old }
+    ensures turn { IfOk result (TurnIs assumptions.now state.old state.new) }
+    ensures keeps { Keeps state.old state.new }
+    ensures budget { state.new.tally.budget ≡ state.old.tally.budget }
+    ensures counts { KeepsCount state.old.tally state.new.tally }
+    ensures passed { IfOk result (λ turn. Passed assumptions.now state.new cursor.new) }
 {
-    match core.watches.propagate(&core.store, &mut core.trail)? {
+    match state.watches.propagate(&state.store, &mut state.trail)? {
         Some(conflict) => {
             *cursor = Cursor::start();
-            resolve(alloc, core, assumptions, conflict)
+            resolve(alloc, state, assumptions, conflict)
         }
-        None => choose(alloc, core, assumptions, firm, cursor),
+        None => choose(alloc, state, assumptions, cursor),
     }
 }
 
-/// Looks for a model of the stored clauses and of the assumptions, by conflict-driven search (Marques Silva, Sakallah 1996;
-/// assumptions as in Eén, Sörensson, MiniSat 2003). It propagates, learns from each false clause at the highest level of its
-/// literals, decides the assumptions in order, and then decides true the least variable that has no value. It ends with a model
-/// as soon as the assumptions and every firm clause are true; the variables without a value are then decided true.
+/// Looks for a model of the stored clauses and of the assumptions, by conflict-driven search
+/// (Marques Silva, Sakallah 1996; assumptions as in Eén, Sörensson, MiniSat 2003). It propagates,
+/// learns from each false clause at the highest level of its literals, decides the assumptions in
+/// order, and then decides what the order picks. It ends with a model once every variable has a
+/// value.
 ///
-/// The core must be ready for the assumptions, and its trail at the root. `Sat` says that the core's model makes the firm
-/// clauses and the assumptions true; its values are those of the trail, where all declared variables have one. `Unsat` has a
-/// core: some of the assumptions, none twice, that no assignment which makes the stored clauses true makes true. `Spent` comes
-/// only where as many conflicts were counted as the budget says, below 2^62. Whatever is answered, `Memory` too, the firm
-/// clauses stay, what was learned follows from the clauses, and the trail has its reasons.
+/// The core must be ready for the assumptions, and its trail at the root. `Sat` says that the
+/// core's model makes the firm clauses and the assumptions true; its values are those of the trail,
+/// where all declared variables have one. `Unsat` has a core: some of the assumptions, none twice,
+/// that no assignment which makes the stored clauses true makes true. `Spent` comes only where as
+/// many conflicts were counted in this search as the budget says, below 2^62. Whatever is answered,
+/// `Memory` too, the firm clauses stay, what was learned follows from the clauses, the core stands
+/// (`pause` lays it to rest), and the tally's count is the rise of its total in this search.
 pub fn search(
     alloc: Global,
-    core: &mut Core,
+    state: &mut Core,
     assumptions: &[Lit],
     budget: Budget,
 ) -> Result<Found, Memory>
-    requires ready { IsReady assumptions.now core.old }
-    requires root { core.old.trail.level ≡ 0 }
+    requires ready { IsReady assumptions.now state.old }
+    requires root { state.old.trail.level ≡ 0 }
     requires budget { budget.conflicts ≤ 2 ^ 62 }
-    ensures found { IfOk result (FoundIs assumptions.now core.old core.new) }
-    ensures keeps { Keeps core.old core.new }
-    ensures budget { core.new.tally.budget ≡ budget.conflicts }
+    ensures found { IfOk result (FoundIs assumptions.now state.old state.new) }
+    ensures keeps { Keeps state.old state.new }
+    ensures budget { state.new.tally.budget ≡ budget.conflicts }
+    ensures counted { CountsFrom state.old.tally.total state.new.tally }
 {
-    core.trail.has_shape();
-    core.tally.start(budget.conflicts);
-    let firm = Vec::from_slice(alloc, core.store.firm_ids())?;
+    state.trail.law_shape();
+    state.tally.total();
+    state.tally.start(budget.conflicts);
+    state.policy.start();
+    state.order.stable(false);
     let mut cursor = Cursor::start();
     loop {
-        match take_turn(alloc, core, assumptions, firm.as_slice(), &mut cursor)? {
-            Turn::Goes => core.trail.has_room(),
+        match take_turn(alloc, state, assumptions, &mut cursor)? {
+            Turn::Goes => {}
             Turn::Ends(found) => return Ok(found),
         }
     }

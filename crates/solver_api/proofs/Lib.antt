@@ -2,3 +2,4 @@ pub mod PartLemmas
 pub mod EngineLemmas
 pub mod Lists
 pub mod StandingLemmas
+pub mod RecheckLemmas

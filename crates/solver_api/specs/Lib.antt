@@ -3,3 +3,4 @@ pub mod Held
 pub mod Standing
 pub mod Steps
 pub mod Finds
+pub mod Recheck

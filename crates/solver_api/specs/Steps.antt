@@ -1,5 +1,5 @@
 -- What a solver shows, and what its calls do to that (IPASIR's calls, with a refusal beside each answer).
-use Rattle.std.specs.Prelude.{◌≡◌, ℕ, ◌+◌, ◌^◌, ◌<◌, ◌≤◌, ◌||◌, ◌==◌, max, Bool, true, false, List, [], ◌∷◌, ◌++◌, length, Option, Some, None, Result, Ok, Err}
+use Rattle.std.specs.Prelude.{◌≡◌, ℕ, ◌+◌, ◌^◌, ◌<◌, ◌≤◌, ◌||◌, ◌==◌, max, min, Bool, true, false, List, [], ◌∷◌, ◌++◌, length, Option, Some, None, Result, Ok, Err}
 use Rattle.sat_terms.specs.Literal.{var_of, has}
 use Rattle.sat_terms.specs.Truth.{values, lit_true}
 use Rattle.sat_terms.specs.Answer.{greatest_var, IsModel, IsCore}
@@ -15,6 +15,7 @@ use Rattle.solver_api.specs.declared.calls.Outcome.{Outcome}
 use Rattle.solver_api.specs.declared.calls.Outcome.TheVariants.{Sat, Unsat, Unknown}
 use Rattle.solver_api.specs.declared.calls.Refusal.{Refusal}
 use Rattle.solver_api.specs.declared.calls.Refusal.TheVariants as refusals
+use Rattle.solver_api.specs.declared.calls.Stats.{Stats}
 use Rattle.solver_api.specs.declared.solver.Solver.{Solver}
 use Rattle.search_engine.specs.declared.state.Spent.TheVariants.{Conflicts}
 use Rattle.search_engine.specs.Searching.{IsSpent}
@@ -87,11 +88,28 @@ abbrev pub Step : State → Call → Result Reply Refusal → State → Type 0
 Step old call (Ok reply) new = Accepted old call reply new
 Step old call (Err why) new = Refused old call why new
 
--- where the answer is Unknown, the solver's tally has counted as many conflicts as that says, and is spent
+-- where the answer is Unknown, as many conflicts were counted in this solve as it says, and the tally is spent
 abbrev pub IsCounted : Outcome → Solver → Type 0
 IsCounted Sat s = Unit {0}
 IsCounted Unsat s = Unit {0}
-IsCounted (Unknown (Conflicts n)) s = IsSpent n s.engine.tally
+IsCounted (Unknown (Conflicts n)) s = (n ≡ s.stats.conflicts) × IsSpent n s.engine.tally
+
+-- nothing was counted
+abbrev pub no_stats : Stats
+no_stats = record { conflicts = 0; callbacks = 0; removed = 0; restored = 0 }
+
+-- What a solve counted, refused or not: its conflicts are the rise of the total of all conflicts ever counted, which stops at
+-- 2^62. A settled solver counts nothing.
+pub record CountsSolve (old new : Solver) : Type 0 where
+  pub total : new.engine.tally.total ≡ min (old.engine.tally.total + new.stats.conflicts) (2 ^ 62)
+  pub others : new.stats ≡ record no_stats { conflicts = new.stats.conflicts }
+  pub settled : old.settled ≡ true → new.stats ≡ no_stats
+
+-- what a call leaves of the counts: those of the last solve stay until the next one
+abbrev pub Counts : Call → Solver → Solver → Type 0
+Counts (Add lits) old new = new.stats ≡ old.stats
+Counts (Assume lit) old new = new.stats ≡ old.stats
+Counts (Solve budget limit) old new = CountsSolve old new
 
 -- the answer of a call that answers nothing but its refusals
 abbrev pub done : Result (Unit {0}) Refusal → Result Reply Refusal

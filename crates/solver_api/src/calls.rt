@@ -40,6 +40,33 @@ pub enum Outcome {
     Unknown(Spent),
 }
 
+/// What a solve counted.
+#[derive(Clone, Copy, Debug, PartialEq, Eq)]
+pub struct Stats {
+    /// The clauses that were analysed.
+    pub conflicts: u64,
+    /// The calls of an external propagator. There is none yet.
+    pub callbacks: u64,
+    /// The clauses that simplification removed. There is no simplification yet.
+    pub removed: u64,
+    /// The removed clauses that were restored.
+    pub restored: u64,
+}
+
+impl Stats {
+    // So many conflicts, and nothing else.
+    pub(crate) fn of_conflicts(conflicts: u64) -> Stats
+        ensures { result ≡ record { conflicts = conflicts; callbacks = 0; removed = 0; restored = 0 } }
+    {
+        Stats {
+            conflicts,
+            callbacks: 0,
+            removed: 0,
+            restored: 0,
+        }
+    }
+}
+
 /// Why a call is refused.
 #[derive(Clone, Copy, Debug, PartialEq, Eq, Error)]
 pub enum Refusal {

@@ -1,15 +1,16 @@
 //! The engine of a solver: the clauses that it stores, and the search among them.
+//!
+//! It puts clauses into normal form, keeps one core from query to query, and lays it to rest after
+//! each search, whatever that answered. A model goes out with its memory, and comes back with the
+//! next query.
 ghost use Rattle.std.specs.Prelude.{◌≡◌, ◌≤◌, ◌^◌, [], IfOk, OnOk, OnErr};
 ghost use Rattle.sat_terms.specs.Answer.{Within};
-ghost use Rattle.rooted_trails.specs.Rooted.{Rooted};
-ghost use Rattle.search_engine.specs.Searching.{StoreWithin, Learns};
-ghost use Rattle.solver_api.specs.Held.{IsAtRest, Takes};
+ghost use Rattle.search_engine.specs.Searching.{clauses, StoreWithin, Learns, IsStanding, IsAtRest, CountsFrom};
+ghost use Rattle.solver_api.specs.Held.{Takes};
 ghost use Rattle.solver_api.specs.Finds.{Finds, IsCaused};
 
-use crate::mode::Values;
-use clause_store::stored::Keep;
-use normal_form::forms::normal_form;
-use sat_model::lists::Lits;
+use crate::mode::{Failed, Values};
+use normal_form::forms::{has_opposites, is_normal, sort_and_dedup};
 use sat_model::literal::Lit;
 use sat_model::memory::Memory;
 use search_engine::search::search;
@@ -24,29 +25,33 @@ pub(crate) enum Answer {
     // A model.
     Model(Values),
     // A core of the assumptions.
-    Core(Lits),
+    Core(Failed),
     // The budget was used up before an answer was found.
     Spent(Spent),
 }
 
-// The clauses that a solver stores, and the state of its search. Contracts see the stored clauses, the greatest declared
-// variable, and the count of the conflicts of the last search.
+// The clauses that a solver stores, and the state of its search. Contracts see the stored clauses,
+// the greatest declared variable, and the count of the conflicts of the last search.
 #[derive(Drop)]
 pub(crate) struct Engine {
+    // The clauses and the search. It is at rest.
     core: Core,
+    // Where clauses are sorted.
+    scratch: Vec<Lit>,
 }
 
 impl Model for Engine {
-    ghost use Rattle.solver_api.specs.Held.{Held, IsAtRest};
+    ghost use Rattle.search_engine.specs.Searching.{clauses, IsAtRest};
+    ghost use Rattle.solver_api.specs.Held.{Held};
 
     ghost Value = { Held };
 
-    ghost view = { λ e. record { store = e.core.store; declared = e.core.trail.declared; tally = e.core.tally } };
+    ghost view = { λ e. record { store = clauses e.core; declared = e.core.order.declared; tally = e.core.tally } };
 
     ghost invariant = { λ e. IsAtRest e.core };
 }
 
-// Searches a core at rest, which need not be at rest after it.
+// Searches a core at rest, which stands then. The tally begins anew.
 fn find(
     alloc: Global,
     core: &mut Core,
@@ -56,24 +61,30 @@ fn find(
 ) -> Result<Answer, Memory>
     requires few { vars ≤ 4194303 }
     requires rest { IsAtRest core.old }
-    requires within { StoreWithin vars core.old.store }
+    requires within { StoreWithin vars (clauses core.old) }
     requires assumed { Within vars assumptions.now }
-    requires declared { core.old.trail.declared ≤ vars }
+    requires declared { core.old.order.declared ≤ vars }
     requires budget { budget.conflicts ≤ 2 ^ 62 }
-    ensures finds { IfOk result (Finds core.old.store assumptions.now vars budget.conflicts) }
+    ensures finds { IfOk result (Finds (clauses core.old) assumptions.now vars budget.conflicts) }
     ensures caused { IfOk result (λ answer. IsCaused answer core.new.tally) }
-    ensures learns { Learns core.old.store core.new.store }
-    ensures rooted { Rooted core.new.store core.new.trail.steps }
-    ensures within { StoreWithin vars core.new.store }
-    ensures declared { core.new.trail.declared ≤ vars }
+    ensures counted { CountsFrom core.old.tally.total core.new.tally }
+    ensures learns { Learns (clauses core.old) (clauses core.new) }
+    ensures within { StoreWithin vars (clauses core.new) }
+    ensures declared { core.new.order.declared ≤ vars }
+    ensures standing { IsStanding core.new }
 {
-    core.prepare(alloc, vars)?;
+    core.tally.total();
+    core.tally.start(budget.conflicts);
+    core.resume(vars)?;
     match search(alloc, core, assumptions, budget)? {
         Found::Sat => {
             let model = mem::replace(&mut core.model, Vec::new(alloc));
             Ok(Answer::Model(Values::new(model)))
         }
-        Found::Unsat(failed) => Ok(Answer::Core(failed)),
+        Found::Unsat(core) => {
+            let failed = Failed::new(alloc, core)?;
+            Ok(Answer::Core(failed))
+        }
         Found::Spent(spent) => Ok(Answer::Spent(spent)),
     }
 }
@@ -86,24 +97,59 @@ impl Engine {
     {
         Engine {
             core: Core::new(alloc),
+            scratch: Vec::new(alloc),
         }
     }
 
-    // Stores the normal form of a clause, and nothing where the clause is a tautology. After `Memory` the engine is as before.
-    pub(crate) fn add(&mut self, alloc: Global, lits: &[Lit]) -> Result<(), Memory>
+    // Stores the normal form of a clause, and nothing where the clause is a tautology. After
+    // `Memory` the engine is as before.
+    pub(crate) fn add(&mut self, lits: &[Lit]) -> Result<(), Memory>
         ensures takes { OnOk result (Takes self.old.store self.new.store lits.now) }
         ensures declared { self.new.declared ≡ self.old.declared }
+        ensures tally { self.new.tally ≡ self.old.tally }
         ensures err { OnErr result (self.new ≡ self.old) }
     {
-        if let Some(form) = normal_form(alloc, lits)? {
-            self.core.store.add(form.as_slice(), Keep::Firm, 0)?;
+        // A clause that is normal already is not copied.
+        if is_normal(lits) {
+            self.core.add(lits)?;
+            return Ok(());
+        }
+        self.scratch.clear();
+        self.scratch.extend_from_slice(lits)?;
+        sort_and_dedup(&mut self.scratch);
+        let tautology = has_opposites(self.scratch.as_slice());
+        if !tautology {
+            self.core.add(self.scratch.as_slice())?;
         }
         Ok(())
     }
 
-    // Looks for a model of the stored clauses and of the assumptions, over the variables 1 to `vars`: those of the clauses and of
-    // the assumptions must be among these, and no more may be declared. `Spent` comes only where as many conflicts were counted as
-    // the budget says. Whatever is answered, `Memory` too, the firm clauses stay, and all others follow from the clauses before.
+    // Takes the memory of a model back, for the next one.
+    pub(crate) fn take_back(&mut self, model: Vec<bool>)
+        ensures { self.new ≡ self.old }
+    {
+        self.core.model = model;
+    }
+
+    // Totals stop at 2^62. The call does nothing.
+    pub(crate) fn law_total(&self)
+        ensures { self.now.tally.total ≤ 2 ^ 62 }
+    {
+        self.core.tally.total();
+    }
+
+    // How many conflicts the last search counted.
+    pub(crate) fn conflicts(&self) -> u64
+        ensures { result ≡ self.now.tally.count }
+    {
+        self.core.tally.count()
+    }
+
+    // Looks for a model of the stored clauses and of the assumptions, over the variables 1 to
+    // `vars`: those of the clauses and of the assumptions must be among these, and no more may be
+    // declared. `Spent` comes only where as many conflicts were counted in this call as the budget
+    // says. Whatever is answered, `Memory` too, the firm clauses stay, all others follow from the
+    // clauses before, and the count of the conflicts is the rise of the total.
     pub(crate) fn solve(
         &mut self,
         alloc: Global,
@@ -118,12 +164,13 @@ impl Engine {
         requires budget { budget.conflicts ≤ 2 ^ 62 }
         ensures finds { IfOk result (Finds self.old.store assumptions.now vars budget.conflicts) }
         ensures caused { IfOk result (λ answer. IsCaused answer self.new.tally) }
+        ensures counted { CountsFrom self.old.tally.total self.new.tally }
         ensures learns { Learns self.old.store self.new.store }
         ensures within { StoreWithin vars self.new.store }
         ensures declared { self.new.declared ≤ vars }
     {
         let found = find(alloc, &mut self.core, assumptions, vars, budget);
-        self.core.rest();
+        self.core.pause();
         found
     }
 }

@@ -87,4 +87,11 @@ impl Givens {
     {
         &self.parts[k]
     }
+
+    // The parts, in order.
+    pub(crate) fn as_slice(&self) -> &[GivenPart]
+        ensures { result.now ≡ self.now }
+    {
+        &self.parts
+    }
 }

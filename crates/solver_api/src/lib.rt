@@ -6,6 +6,7 @@ mod engine;
 pub mod givens;
 mod literals;
 pub mod mode;
+mod recheck;
 pub mod solver;
 #[cfg(test)]
 mod tests;

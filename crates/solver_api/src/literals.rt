@@ -1,12 +1,11 @@
 //! Lists of literals.
 ghost use Rattle.std.specs.Prelude.{◌≡◌, ◌≤◌, ◌||◌, ◌==◌, max, length};
-ghost use Rattle.sat_terms.specs.Literal.{has};
 ghost use Rattle.sat_terms.specs.Answer.{Within, greatest_var};
 
 use sat_model::literal::Lit;
 
 // The greatest variable of the literals, or `most` where that is greater.
-pub fn greatest_of(most: u32, lits: &[Lit]) -> u32
+pub(crate) fn greatest_of(most: u32, lits: &[Lit]) -> u32
     requires { most ≤ 4194303 }
     ensures value { result ≡ max most (greatest_var lits.now) }
     ensures few { result ≤ 4194303 }
@@ -19,15 +18,8 @@ pub fn greatest_of(most: u32, lits: &[Lit]) -> u32
     greatest
 }
 
-// Whether the literal is one of these.
-pub fn stands_in(lits: &[Lit], lit: Lit) -> bool
-    ensures { result ≡ has lits.now lit }
-{
-    lits.iter().any(|l| *l == lit)
-}
-
 // Whether a solver is settled that was settled or not, once these literals are a clause or a core.
-pub fn settles(settled: bool, lits: &[Lit]) -> bool
+pub(crate) fn settles(settled: bool, lits: &[Lit]) -> bool
     ensures { result ≡ (settled || (length lits.now == 0)) }
 {
     settled || lits.is_empty()

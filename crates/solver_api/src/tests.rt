@@ -1,4 +1,7 @@
 //! Tests of a solver.
+//!
+//! Most are scripts: each row gives a clause, asks a query, or looks at what is shown. The long
+//! clause is above every size that is kept in place.
 
 use crate::calls::{Budget, Call, Outcome, Refusal, Spent};
 use crate::givens::GivenPart;
@@ -31,8 +34,9 @@ fn give(rt: &impl Abort, alloc: Global, solver: &mut Solver, numbers: &[i32]) ->
     Ok(())
 }
 
-// Assumes these numbers and solves within so many conflicts: the word `sat` and the model's values, the word `unsat` and the core's
-// numbers, or the word `unknown` and the conflicts that were counted.
+// Assumes these numbers and solves within so many conflicts: the word `sat` and the model's values,
+// the word `unsat` and the core's numbers, or the word `unknown` and the conflicts that were
+// counted.
 fn ask(
     rt: &impl Abort,
     alloc: Global,
@@ -78,8 +82,10 @@ enum Row<'a> {
     Give(&'a [i32]),
     // A query under these assumptions finds this.
     Ask(&'a [i32], &'a str),
-    // A query under these assumptions, within no conflict, finds this.
-    AskWithin(&'a [i32], &'a str),
+    // A query under these assumptions, within so many conflicts, finds this.
+    AskWithin(&'a [i32], u32, &'a str),
+    // So many conflicts were counted in the last solve, and nothing else.
+    Conflicts(u64),
     // `val` and `failed` of this literal answer so.
     Look(i32, &'a str),
     // So many assumptions are pending, and so many were queried.
@@ -95,9 +101,14 @@ fn run(rt: &impl Abort, alloc: Global, rows: &[Row]) -> Result<(), Fail> {
                 let found = ask(rt, alloc, &mut solver, numbers, 1_000_000)?;
                 assert_eq!(rt; found.as_str(), *text);
             }
-            Row::AskWithin(numbers, text) => {
-                let found = ask(rt, alloc, &mut solver, numbers, 0)?;
+            Row::AskWithin(numbers, conflicts, text) => {
+                let found = ask(rt, alloc, &mut solver, numbers, *conflicts)?;
                 assert_eq!(rt; found.as_str(), *text);
+            }
+            Row::Conflicts(conflicts) => {
+                let stats = solver.stats();
+                let others = (stats.callbacks, stats.removed, stats.restored);
+                assert_eq!(rt; (stats.conflicts, others), (*conflicts, (0, 0, 0)));
             }
             Row::Count(pending, queried) => {
                 let counts = (solver.assumed().len(), solver.queried().len());
@@ -149,23 +160,79 @@ fn stops_at_its_budget(rt: HostRuntime) -> Result<(), Fail> {
         Row::Give(&[-2, -4]),
         Row::Give(&[-2, -6]),
         Row::Give(&[-4, -6]),
-        Row::AskWithin(&[7], "unknown 0"),
+        Row::Conflicts(0),
+        Row::AskWithin(&[7], 0, "unknown 0"),
+        Row::Conflicts(0),
         Row::Look(7, "Err(NotSat) Err(NotUnsat)"),
         Row::Count(0, 1),
-        Row::Ask(&[7, 8], "unsat"),
+        Row::AskWithin(&[7, 8], 9832, "unsat"),
+        Row::Conflicts(1),
         Row::Look(7, "Err(NotSat) Ok(false)"),
         Row::Count(0, 2),
+        // A settled solver counts nothing.
+        Row::Ask(&[], "unsat"),
+        Row::Conflicts(0),
     ];
     run(&rt, rt.alloc(), &rows)?;
-    // What a query has learned stays: the last one meets no conflict.
+    // Every clause of three variables: three conflicts show that they have no model. What was
+    // learned stays.
+    let rows = [
+        Row::Give(&[1, 2, 3]),
+        Row::Give(&[1, 2, -3]),
+        Row::Give(&[1, -2, 3]),
+        Row::Give(&[1, -2, -3]),
+        Row::Give(&[-1, 2, 3]),
+        Row::Give(&[-1, 2, -3]),
+        Row::Give(&[-1, -2, 3]),
+        Row::Give(&[-1, -2, -3]),
+        Row::AskWithin(&[], 2, "unknown 2"),
+        Row::Conflicts(2),
+        Row::AskWithin(&[], 0, "unknown 0"),
+        Row::Conflicts(0),
+        Row::AskWithin(&[], 1, "unsat"),
+        Row::Conflicts(1),
+    ];
+    run(&rt, rt.alloc(), &rows)?;
     let rows = [
         Row::Give(&[-1, 2]),
         Row::Give(&[-1, -2]),
-        Row::AskWithin(&[], "unknown 0"),
+        Row::AskWithin(&[], 0, "unknown 0"),
         Row::Ask(&[], "sat 0 1"),
-        Row::AskWithin(&[], "sat 0 1"),
+        Row::AskWithin(&[], 0, "sat 0 1"),
     ];
     run(&rt, rt.alloc(), &rows)
+}
+
+// The clause of the variables from 1 on, and the query that all but the last of them are false;
+// then that the last one is, too.
+fn ask_long(rt: &impl Abort, alloc: Global, vars: i32) -> Result<(), Fail> {
+    let mut solver = Solver::new(alloc)?;
+    let mut numbers = Vec::new(alloc);
+    for number in 1..vars {
+        numbers.push(number)?;
+    }
+    numbers.push(vars)?;
+    give(rt, alloc, &mut solver, numbers.as_slice())?;
+    for number in 1..vars {
+        solver.assume(lit(rt, number.saturating_neg()))?;
+    }
+    let first = solver.solve(AMPLE, 1000)?;
+    let last = solver.val(lit(rt, vars));
+    for number in 1..vars {
+        solver.assume(lit(rt, number.saturating_neg()))?;
+    }
+    solver.assume(lit(rt, vars.saturating_neg()))?;
+    let second = solver.solve(AMPLE, 1000)?;
+    let core = solver.core()?.len();
+    let failed = solver.failed(lit(rt, -1));
+    let found = format!(in alloc; "{first:?} {last:?} {second:?} {core} {failed:?}")?;
+    assert_eq!(rt; found.as_str(), "Sat Ok(true) Unsat 300 Ok(true)");
+    Ok(())
+}
+
+#[test]
+fn clauses_may_be_long(rt: HostRuntime) -> Result<(), Fail> {
+    ask_long(&rt, rt.alloc(), 300)
 }
 
 #[test]

@@ -1,15 +1,17 @@
 -- The walk back to a level.
-use Rattle.std.proofs.Common.{◌≡◌, ◌≢◌, ℕ, suc, ◌+◌, ◌-◌, ◌<◌, ◌≤◌, false, eqb, List, length, length-set, get_or, set, take, inl, inr, refl, sym, ◌∙◌, arith}
+use Rattle.std.proofs.Common.{◌≡◌, ◌≢◌, ℕ, suc, ◌+◌, ◌-◌, ◌<◌, ◌≤◌, false, eqb, List, length, length-set, get_or, set, take, inl, inr, refl, sym, ap, ◌∙◌, arith}
 use Rattle.std.specs.Prelude.{sum_by}
 use Rattle.std.proofs.lemmas.Bool.{cases_eq, ne_eqb}
-use Rattle.std.proofs.lemmas.List.{take-map, get_or-take, length-take-le, get_or-set_same, get_or-set_other, take-take, take_all}
+use Rattle.std.proofs.lemmas.List.{length-map, map-set, take-map, get_or-take, length-take-le, get_or-set_same, get_or-set_other, take-take, take_all}
 use Rattle.std.proofs.lemmas.List.Sums.{sum_by-set}
 use Rattle.sat_terms.specs.Literal.{var_of}
 use Rattle.trail_state.specs.declared.trail.Step.{Step}
 use Rattle.trail_state.specs.Trail.{step, no_step, lits_of, IsApart, IsTrail}
-use Rattle.trail_state.specs.Table.{entry, TableFits, IsHeld}
+use Rattle.trail_state.specs.declared.trail.Entry.{Entry}
+use Rattle.trail_state.specs.Table.{entry, entry_of, empty_entry, places_of, TableFits}
 use Rattle.trail_state.proofs.Levels.{rising, levelled_back}
 use Rattle.trail_state.proofs.Changes.{empty_weight}
+use Rattle.trail_state.proofs.Steps.{SameStanding}
 use Rattle.trail_state.proofs.Places.{lit_read, step_read}
 
 -- the steps of a front
@@ -79,52 +81,66 @@ table_pop p t k fits long =
       few = rw size' fits.few;
     }
 
--- The walk has come down to the place `kept`: the table fits what stands below it, and what it passed stands above the level.
-pub record Falling (t : List Step) (places : List ℕ) (kept level size : ℕ) : Type 0 where
-  pub within : kept ≤ length t
-  pub table : TableFits places (take kept t)
-  pub sized : length places ≡ size
-  pub high : (i : ℕ) → kept ≤ i → i < length t → level < (step t i).level
+-- The walk has come down to the place `end`: the table fits what stands below it. Levels and clauses stay in the table.
+pub record Falling (t : List Step) (es es' : List Entry) (end : ℕ) : Type 0 where
+  pub within : end ≤ length t
+  pub table : TableFits (places_of es') (take end t)
+  pub sized : length es' ≡ length es
+  pub keep : (v : ℕ) → SameStanding (entry_of es v) (entry_of es' v)
 
-pub falling_start : (p : List ℕ) (t : List Step) (n level : ℕ) → n ≡ length t → TableFits p t → Falling t p n level (length p)
-falling_start p t n level is fits = rw is (record {
+pub falling_start : (t : List Step) (es : List Entry) (n : ℕ) → n ≡ length t → TableFits (places_of es) t → Falling t es es n
+falling_start t es n is fits = rw is (record {
   within = omega arith;
   table = rw (take_all (length t) t (omega arith)) fits;
   sized = refl;
-  high = λ i a b. absurd (omega arith);
+  keep = λ v. record { level = refl; clause = refl };
 })
 
--- one step down, as the code reads it: `x` is the step and `l` its literal
-pub falling_turn : (t : List Step) (p : List ℕ) (n kept level size at l : ℕ) (x : Step) → Falling t p n level size → kept + 1 ≡ n
-    → x ≡ get_or t kept x → level < x.level → l ≡ get_or (lits_of t) kept l → at + 1 ≡ var_of l → Falling t (set p at 0) kept level size
-falling_turn t p n kept level size at l x f is x-is gt l-is at-is =
+-- the table has an entry for the variable of the step below
+pub falling_in : (t : List Step) (es es' : List Entry) (n end l : ℕ) → Falling t es es' n → end + 1 ≡ n → l ≡ (step t end).lit → (0 < var_of l) × (var_of l ≤ length es)
+falling_in t es es' n end l f is l-at =
     let w = f.within in
-    let in' : kept < length t = omega arith in
-    let x-at : x ≡ step t kept = step_read t kept x in' x-is in
-    let l-at : l ≡ (step t kept).lit = lit_read t kept l in' l-is in
-    let n-is : n ≡ suc kept = omega arith in
-    let fits : TableFits p (take (suc kept) t) = rw (← n-is) f.table in
-    let here : step (take (suc kept) t) kept ≡ step t kept = step_take t (suc kept) kept (omega arith) in
-    let popped : TableFits (set p (var_of (step (take (suc kept) t) kept).lit - 1) 0) (take kept (take (suc kept) t)) = table_pop p (take (suc kept) t) kept fits (length-take-le (suc kept) t (omega arith)) in
-    let at' : at ≡ var_of (step t kept).lit - 1 = rw (← l-at) (omega arith) in
+    let in' : end < length t = omega arith in
+    let size' : length (take n t) ≡ n = length-take-le n t w in
+    let same = f.sized in
+    let p = f.table.placed end (omega arith) in
+    let size : length (places_of es') ≡ length es' = length-map es' (λ e. e.place) in
+    let h : step (take n t) end ≡ step t end = step_take t n end (omega arith) in
+    let a : 0 < var_of (step t end).lit = rw h at p.named in
+    let b : var_of (step t end).lit ≤ length (places_of es') = rw h at p.declared in
+    rw l-at (omega arith, omega arith)
+
+-- one step down, as the code reads it: `l` is the literal, and `e` its variable's new entry
+pub falling_turn : (t : List Step) (es es' : List Entry) (n end l at : ℕ) (e : Entry) → Falling t es es' n → end + 1 ≡ n → l ≡ (step t end).lit → at + 1 ≡ var_of l → e.place ≡ 0 → SameStanding (get_or es' at empty_entry) e → Falling t es (set es' at e) end
+falling_turn t es es' n end l at e f is l-at at-is none same =
+    let w = f.within in
+    let in' : end < length t = omega arith in
+    let n-is : n ≡ suc end = omega arith in
+    let p = places_of es' in
+    let fits : TableFits p (take (suc end) t) = rw (← n-is) f.table in
+    let here : step (take (suc end) t) end ≡ step t end = step_take t (suc end) end (omega arith) in
+    let popped : TableFits (set p (var_of (step (take (suc end) t) end).lit - 1) 0) (take end (take (suc end) t)) = table_pop p (take (suc end) t) end fits (length-take-le (suc end) t (omega arith)) in
+    let at' : var_of (step t end).lit - 1 ≡ at = rw (← l-at) (omega arith) in
+    let popped' : TableFits (set p at 0) (take end t) = rw (here, take-take end (suc end) t (omega arith), at') at popped in
+    let declared = falling_in t es es' n end l f is l-at in
+    let size = f.sized in
+    let d = declared.1 in
     record {
       within = omega arith;
-      table = rw at' (rw (here, take-take kept (suc kept) t (omega arith)) at popped);
-      sized = length-set p at 0 ∙ f.sized;
-      high = λ i a b.
-          elim (cases_eq i kept) [
-            | inl e ↦ rw (e, ← x-at) gt
-            | inr m ↦ f.high i (omega arith) b
+      table = rw (map-set (λ (z : Entry). z.place) es' at e, none) popped';
+      sized = length-set es' at e ∙ f.sized;
+      keep = λ v.
+          let k = f.keep v in
+          elim (cases_eq (v - 1) at) [
+            | inl q ↦
+                let r : entry_of (set es' at e) v ≡ e = rw q (get_or-set_same es' at e empty_entry (omega arith)) in
+                let r' : entry_of es' v ≡ get_or es' at empty_entry = rw q refl in
+                record { level = ap (λ z. z.level) r ∙ same.level ∙ sym (ap (λ z. z.level) r') ∙ k.level; clause = ap (λ z. z.clause) r ∙ same.clause ∙ sym (ap (λ z. z.clause) r') ∙ k.clause }
+            | inr m ↦
+                let r : entry_of (set es' at e) v ≡ entry_of es' v = get_or-set_other es' at (v - 1) e empty_entry m in
+                record { level = ap (λ z. z.level) r ∙ k.level; clause = ap (λ z. z.clause) r ∙ k.clause }
           ];
     }
-
--- where the walk stops, all below stands at the level or below it
-pub falling_low : (t : List Step) (p : List ℕ) (kept level size top : ℕ) → Falling t p kept level size → IsTrail t top → (0 < kept → (step t (kept - 1)).level ≤ level) → (i : ℕ) → i < kept → (step t i).level ≤ level
-falling_low t p kept level size top f shape low i lt =
-    let w = f.within in
-    let l = low (omega arith) in
-    let up = rising 0 t top shape.levels i (kept - 1) (omega arith) (omega arith) in
-    omega arith
 
 -- a front is a trail of its level
 pub shape_back : (t : List Step) (top level k : ℕ) → IsTrail t top → level ≤ top → k ≤ length t → ((i : ℕ) → i < k → (step t i).level ≤ level) → ((i : ℕ) → k ≤ i → i < length t → level < (step t i).level) → IsTrail (take k t) level
@@ -132,30 +148,3 @@ shape_back t top level k shape le in' small great = record {
   apart = apart_take t k in' shape.apart;
   levels = levelled_back 0 t top level k shape.levels (omega arith) le in' small great;
 }
-
--- the table has an entry for the variable of the step below
-pub falling_in : (t : List Step) (p : List ℕ) (n kept level size at l : ℕ) → Falling t p n level size → kept + 1 ≡ n → l ≡ get_or (lits_of t) kept l → at + 1 ≡ var_of l → at < length p
-falling_in t p n kept level size at l f is l-is at-is =
-    let w = f.within in
-    let in' : kept < length t = omega arith in
-    let l-at : l ≡ (step t kept).lit = lit_read t kept l in' l-is in
-    let size' : length (take n t) ≡ n = length-take-le n t w in
-    let d = (f.table.placed kept (omega arith)).declared in
-    let d' : var_of l ≤ length p = rw (step_take t n kept (omega arith), ← l-at) at d in
-    omega arith
-
--- what `back_to` makes of the trail, as the code reads it
-pub held_back : (lits lits' p0 p : List ℕ) (t t' : List Step) (top level room room' room2 room2' kept : ℕ) → IsHeld lits p0 t top room room' → Falling t p kept level (length p0) → level ≤ top → ((i : ℕ) → i < kept → (step t i).level ≤ level)
-    → lits' ≡ take kept lits → t' ≡ take kept t → room2 ≡ room → room2' ≡ room' → IsHeld lits' p t' level room2 room2'
-held_back lits lits' p0 p t t' top level room room' room2 room2' kept held f le low lits-is t-is same same' =
-    let size = f.sized in
-    let a = held.lits_room in
-    let b = held.steps_room in
-    rw (lits-is, t-is)
-    (record {
-      same = rw held.same (take-map (λ x. x.lit) kept t);
-      table = f.table;
-      shape = shape_back t top level kept held.shape le f.within low f.high;
-      lits_room = omega arith;
-      steps_room = omega arith;
-    })

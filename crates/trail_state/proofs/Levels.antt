@@ -1,16 +1,17 @@
 -- What the levels of a trail say.
-use Rattle.std.proofs.Common.{◌≡◌, ℕ, suc, zero, ◌+◌, ◌<◌, ◌≤◌, List, [], ◌∷◌, ◌++◌, length, take, refl, ◌∙◌, arith}
+use Rattle.std.proofs.Common.{◌≡◌, ℕ, suc, zero, ◌+◌, ◌<◌, ◌≤◌, List, [], ◌∷◌, ◌++◌, length, take, inl, inr, refl, ◌∙◌, arith}
+use Rattle.std.proofs.lemmas.Bool.{cases_lt}
 use Rattle.trail_state.specs.declared.trail.Step.{Step}
 use Rattle.trail_state.specs.declared.reason.Reason.{Reason}
 use Rattle.trail_state.specs.declared.reason.Reason.TheVariants.{Decision, Clause, Theory}
-use Rattle.trail_state.specs.Trail.{step, level_after, Levelled}
+use Rattle.trail_state.specs.Trail.{Trace, step, level_after, Levelled, IsStart, IsBack}
 
 pub after_le : (n : ℕ) (r : Reason) → n ≤ level_after n r
 after_le n Decision = omega arith
 after_le n (Clause id) = omega arith
 after_le n Theory = omega arith
 
-after_most : (n : ℕ) (r : Reason) → level_after n r ≤ n + 1
+pub after_most : (n : ℕ) (r : Reason) → level_after n r ≤ n + 1
 after_most n Decision = omega arith
 after_most n (Clause id) = omega arith
 after_most n Theory = omega arith
@@ -96,3 +97,52 @@ first_high n (x ∷ t) top level zero h low in' small great = only x.reason h.0 
   only Theory e = absurd (omega arith)
 first_high n (x ∷ t) top level (suc k) h low in' small great =
     first_high (level_after n x.reason) t top level k h.1 (let s = small 0 (omega arith) in let e = h.0 in omega arith) (omega arith) (λ i lt. small (suc i) (omega arith)) great
+
+-- a step stands at the current level, if that is not the level at which the list begins
+pub top_stands : (n : ℕ) (t : List Step) (top : ℕ) → Levelled n t top → n < top → (j : ℕ) × (j < length t) × ((step t j).level ≡ top)
+top_stands n [] top h up = absurd (omega arith)
+top_stands n (x ∷ t) top h up =
+    elim (cases_lt (level_after n x.reason) top) [
+      | inl lt ↦
+          let r = top_stands (level_after n x.reason) t top h.1 lt in
+          let b = r.1 in
+          (suc r.0, omega arith, r.2)
+      | inr ge ↦
+          let le = levelled_le (level_after n x.reason) t top h.1 in
+          let e = h.0 in
+          (0, omega arith, omega arith)
+    ]
+
+-- a level up to the current one starts before the end
+pub start_before : (t : List Step) (top level s : ℕ) → Levelled 0 t top → IsStart t level s → 0 < level → level ≤ top → s < length t
+start_before t top level s h start pos le =
+    let r = top_stands 0 t top h (omega arith) in
+    let b = r.1 in
+    let e = r.2 in
+    elim (cases_lt r.0 s) [
+      | inl lt ↦ absurd (let z = start.below r.0 lt in omega arith)
+      | inr ge ↦ omega arith
+    ]
+
+-- a level starts at one place
+pub start_once : (t : List Step) (level s s' : ℕ) → IsStart t level s → IsStart t level s' → s ≤ s'
+start_once t level s s' a b =
+    elim (cases_lt s' s) [
+      | inl lt ↦ absurd (let i = a.within in let x = a.below s' lt in let y = b.rest s' (omega arith) (omega arith) in omega arith)
+      | inr ge ↦ ge
+    ]
+
+-- what going back to a level keeps ends where the next level starts
+pub kept_start : (old new : Trace) (level s : ℕ) (back : IsBack old new level) → IsStart old.steps (suc level) s → back.kept ≡ s
+kept_start old new level s back start =
+    let low : s ≤ back.kept =
+    elim (cases_lt back.kept s) [
+      | inl lt ↦ absurd (let i = start.within in let x = start.below back.kept lt in let y = back.high back.kept (omega arith) (omega arith) in omega arith)
+      | inr ge ↦ ge
+    ] in
+    let up : back.kept ≤ s =
+    elim (cases_lt s back.kept) [
+      | inl lt ↦ absurd (let i = back.within in let x = start.rest s (omega arith) (omega arith) in let y = back.low s lt in omega arith)
+      | inr ge ↦ ge
+    ] in
+    omega arith

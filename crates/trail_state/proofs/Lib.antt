@@ -1,5 +1,9 @@
 pub mod Places
 pub mod Levels
+pub mod Longer
 pub mod Changes
+pub mod Steps
 pub mod Backing
+pub mod Holding
 pub mod Ranks
+pub mod Values

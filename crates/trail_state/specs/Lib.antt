@@ -2,3 +2,4 @@ pub mod Trail
 pub mod Table
 pub mod Clauses
 pub mod Rank
+pub mod Mark

@@ -70,6 +70,12 @@ pub record HasRoom (t : Trace) : Type 0 where
   pub levels : t.level ≤ length t.steps
   pub named : (i : ℕ) → i < length t.steps → (0 < var_of (step t.steps i).lit) × (var_of (step t.steps i).lit ≤ t.declared)
 
+-- A level starts at a place: the steps before it stand below the level, and the others don't.
+pub record IsStart (t : List Step) (level start : ℕ) : Type 0 where
+  pub within : start ≤ length t
+  pub below : (i : ℕ) → i < start → (step t i).level < level
+  pub rest : (i : ℕ) → start ≤ i → i < length t → level ≤ (step t i).level
+
 -- The trail went back to a level: it keeps the front of the steps up to that level.
 pub record IsBack (old new : Trace) (level : ℕ) : Type 0 where
   pub kept : ℕ

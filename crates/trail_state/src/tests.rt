@@ -1,12 +1,13 @@
-//! The happy path of each call.
-ghost use Rattle.std.specs.Prelude.{◌≡◌, ◌≤◌, None, IsTrue};
+//! Each call on a trail that grows and goes back, with each kind of reason, and a trail of hundreds of literals.
+ghost use Rattle.std.specs.Prelude.{◌≡◌, ◌≢◌, ◌≤◌, None, IsTrue};
 ghost use Rattle.sat_terms.specs.Literal.{var_of};
 ghost use Rattle.trail_state.specs.Trail.{value_on};
+ghost use Rattle.trail_state.specs.declared.reason.Reason.TheVariants.{Decision};
 
 use crate::reason::Reason;
 use crate::trail::Trail;
 use sat_model::lists::ClauseId;
-use sat_model::literal::Lit;
+use sat_model::literal::{Lit, Var};
 use std::test::Fail;
 
 // Whether the variable of a literal is declared and has no value.
@@ -16,46 +17,104 @@ fn is_open(trail: &Trail, lit: Lit) -> bool
     lit.var().index() <= trail.declared() && trail.value(lit).is_none()
 }
 
-// Assigns a literal that is open, as a clause of this number implies it.
-fn imply(trail: &mut Trail, lit: Lit, number: usize) {
-    if is_open(trail, lit) {
-        trail.assign(lit, Reason::Clause(ClauseId::new(number)));
+// Decides the literal of this number, if it is open.
+fn decide(trail: &mut Trail, number: i32) {
+    if let Some(lit) = Lit::new(number) {
+        if is_open(trail, lit) {
+            trail.decide(lit);
+        }
     }
 }
 
-// What a trail says of a literal and of its variable: value, level, place and reason.
-fn facts(trail: &Trail, lit: Lit) -> (Option<bool>, Option<u32>, Option<u32>, Option<Reason>) {
-    let var = lit.var();
-    (
-        trail.value(lit),
-        trail.level_of(var),
-        trail.place_of(var),
-        trail.reason_of(var),
-    )
+// Assigns the literal of this number, if it is open.
+fn imply(trail: &mut Trail, number: i32, reason: Reason)
+    requires { reason ≢ Decision }
+{
+    if let Some(lit) = Lit::new(number) {
+        if is_open(trail, lit) {
+            trail.assign(lit, reason);
+        }
+    }
+}
+
+// What a trail says of the literal of this number and of its variable: value, level, place and reason.
+fn facts(trail: &Trail, number: i32) -> (Option<bool>, Option<u32>, Option<u32>, Option<Reason>) {
+    match Lit::new(number) {
+        None => (None, None, None, None),
+        Some(lit) => {
+            let var = lit.var();
+            (
+                trail.value(lit),
+                trail.level_of(var),
+                trail.place_of(var),
+                trail.reason_of(var),
+            )
+        }
+    }
+}
+
+// Level and reason of a place, if the trail has it.
+fn facts_at(trail: &Trail, place: u32) -> Option<(u32, Reason)> {
+    if place as usize >= trail.lits().len() {
+        return None;
+    }
+    Some((trail.level_at(place), trail.reason_at(place)))
+}
+
+// Goes back, if the trail is above the level.
+fn back_to(trail: &mut Trail, level: u32) {
+    if level <= trail.level() {
+        trail.back_to(level);
+    }
 }
 
 #[test]
 fn literals_come_and_go(rt: HostRuntime) -> Result<(), Fail> {
-    let one = Lit::new(1).ok_or("no literal")?;
-    let not_two = Lit::new(-2).ok_or("no literal")?;
-    let three = Lit::new(3).ok_or("no literal")?;
     let mut trail = Trail::new(rt.alloc());
-    trail.declare(three.var())?;
-    assert_eq!(rt; trail.declared(), 3);
-    if is_open(&trail, one) {
-        trail.decide(one);
+    trail.declare(Var::new(500).ok_or("no variable")?)?;
+    let because = Reason::Clause(ClauseId::new(4_294_967_295));
+    imply(&mut trail, 9, because);
+    decide(&mut trail, 1);
+    imply(&mut trail, -2, because);
+    imply(&mut trail, 3, Reason::Theory);
+    decide(&mut trail, -4);
+    imply(&mut trail, 5, Reason::Theory);
+    assert!(rt; trail.declared() == 500 && trail.level() == 2 && trail.lits().len() == 6);
+    assert!(rt; facts(&trail, 2) == (Some(false), Some(1), Some(2), Some(because)));
+    assert!(rt; facts(&trail, -4) == (Some(true), Some(2), Some(4), Some(Reason::Decision)));
+    assert!(rt;
+        facts(&trail, 6) == (None, None, None, None)
+            && facts(&trail, 501) == (None, None, None, None)
+    );
+    let rows = [
+        (0, Some((0, because)), 0),
+        (1, Some((1, Reason::Decision)), 1),
+        (2, Some((1, because)), 4),
+        (3, Some((1, Reason::Theory)), 6),
+        (4, Some((2, Reason::Decision)), 6),
+        (5, Some((2, Reason::Theory)), 6),
+        (6, None, 6),
+    ];
+    for (number, at, start) in rows {
+        assert!(rt; facts_at(&trail, number) == at && trail.start_of(number) == start);
     }
-    imply(&mut trail, not_two, 7);
-    assert_eq!(rt; trail.level(), 1);
-    assert_eq!(rt; trail.lits(), [one, not_two].as_slice());
-    assert!(rt; facts(&trail, one) == (Some(true), Some(1), Some(0), Some(Reason::Decision)));
-    let because = Reason::Clause(ClauseId::new(7));
-    assert!(rt; facts(&trail, not_two.neg()) == (Some(false), Some(1), Some(1), Some(because)));
-    assert!(rt; facts(&trail, three) == (None, None, None, None));
-    trail.back_to(0);
-    assert_eq!(rt; trail.level(), 0);
-    assert!(rt; trail.lits().is_empty());
-    assert!(rt; facts(&trail, one) == (None, None, None, None));
-    assert!(rt; is_open(&trail, not_two));
+    back_to(&mut trail, 1);
+    // The place of a theory's literal is taken by one that a clause implied.
+    imply(&mut trail, -3, because);
+    imply(&mut trail, 5, because);
+    assert!(rt; facts(&trail, 5) == (Some(true), Some(1), Some(4), Some(because)));
+    back_to(&mut trail, 0);
+    assert!(rt;
+        trail.level() == 0
+            && trail.lits().len() == 1
+            && facts(&trail, 1) == (None, None, None, None)
+    );
+    for number in 1..=500 {
+        decide(&mut trail, number);
+    }
+    assert!(rt;
+        trail.level() == 499
+            && facts(&trail, 500) == (Some(true), Some(499), Some(499), Some(Reason::Decision))
+    );
     Ok(())
 }

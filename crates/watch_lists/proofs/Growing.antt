@@ -1,29 +1,25 @@
 -- A trail that grows by implied literals.
-use Rattle.std.proofs.Common.{◌≡◌, ℕ, ◌+◌, ◌<◌, ◌≤◌, true, false, eqb, List, [], ◌∷◌, ◌++◌, length, get_or, take, length-append, append_assoc, inl, inr, refl, sym, ◌∙◌, arith, Option, Some, None}
+use Rattle.std.proofs.Common.{◌≡◌, ℕ, ◌<◌, ◌≤◌, true, false, List, [], ◌∷◌, ◌++◌, length, length-append, append_assoc, inl, inr, refl, sym, ◌∙◌, arith, Option, Some, None}
 use Rattle.std.specs.Prelude.{IfNone, is_some}
-use Rattle.std.proofs.lemmas.Bool.{cases_lt, or_cases, or_left, or_right, eq-eqb, eqb-true, false≢true, false_from_ne_true}
+use Rattle.std.proofs.lemmas.Bool.{cases_lt, false≢true, false_from_ne_true}
 use Rattle.std.proofs.lemmas.List.{take-append-le, take_at, append-nil, get_or_append_left}
 use Rattle.sat_terms.specs.Literal.{has, var_of}
 use Rattle.clause_store.specs.Stored.{Stored, slot, slot_lits, Fills}
 use Rattle.trail_state.specs.declared.trail.Step.{Step}
 use Rattle.trail_state.specs.declared.reason.Reason.TheVariants.{Clause}
 use Rattle.trail_state.specs.Trail.{Trace, step, no_step}
-use Rattle.trail_state.specs.Clauses.{IsUnit, IsQuiet, IsReason}
+use Rattle.trail_state.specs.Clauses.{IsUnit, IsReason}
 use Rattle.trail_state.proofs.Changes.{step_new, old_or_new}
-use Rattle.watch_lists.specs.Propagation.{IsReadyAt, AllReady, IsImplied, Grown, AllQuiet, Rests}
-use Rattle.watch_lists.proofs.Marking.{has-append}
-use Rattle.watch_lists.proofs.Resting.{met_longer, open_front}
-use Rattle.watch_lists.proofs.Members.{has_more, All-has}
+use Rattle.trail_state.proofs.Longer.{step_longer, reason_longer}
+use Rattle.watch_lists.specs.Propagation.{IsReadyAt, AllReady, IsImplied, Grown}
+use Rattle.watch_lists.proofs.Members.{All-has}
 
 step_left : (t more : List Step) (i : ℕ) → i < length t → step (t ++ more) i ≡ step t i
-step_left t more i in' = get_or_append_left t more no_step i in'
+step_left t more i in' = step_longer t more i in'
 
 -- a reason stays one on a longer trail
 pub reason_kept : (c : List ℕ) (t more : List Step) (i : ℕ) → i < length t → IsReason c t i → IsReason c (t ++ more) i
-reason_kept c t more i in' h = record {
-  holds = rw (step_left t more i in') h.holds;
-  others = λ l m n. rw (take-append-le i t more (omega arith)) (h.others l m (rw (step_left t more i in') at n));
-}
+reason_kept c t more i in' h = reason_longer c t more i in' h
 
 implied_kept : (ids : List ℕ) (s : List (Option Stored)) (t more : List Step) (level i : ℕ) → i < length t → IsImplied ids s t level i → IsImplied ids s (t ++ more) level i
 implied_kept ids s t more level i in' h = record {
@@ -90,108 +86,12 @@ grown_more ids s a b c g h = record {
       ];
 }
 
-grown_longer : (ids : List ℕ) (s : List (Option Stored)) (a b : Trace) → Grown ids s a b → length a.steps ≤ length b.steps
+pub grown_longer : (ids : List ℕ) (s : List (Option Stored)) (a b : Trace) → Grown ids s a b → length a.steps ≤ length b.steps
 grown_longer ids s a b g = rw (g.steps, length-append) (omega arith)
-
--- one clause more is quiet
-pub quiet_more : (ids : List ℕ) (s : List (Option Stored)) (t : List Step) (i id : ℕ) → i < length ids → id ≡ get_or ids i id → AllQuiet (take i ids) s t → IsQuiet t (slot_lits (slot s id)) → AllQuiet (take (i + 1) ids) s t
-quiet_more ids s t i id in' is all here k h =
-    elim (has_more ids i id k in' is h) [
-      | inl a ↦ all k a
-      | inr e ↦ rw (← e) here
-    ]
 
 -- what the code needs to assign a literal of a unit clause
 pub unit_declared : (s : List (Option Stored)) (n id l : ℕ) (t : List Step) → IsReadyAt id s n → IsUnit t (slot_lits (slot s id)) l → var_of l ≤ n
 unit_declared s n id l t ready u = (All-has (λ k. (1 ≤ var_of k) × (var_of k ≤ n)) (slot_lits (slot s id)) l ready.1 u.holds).1
-
--- the list of one id
-has_one : (id : ℕ) → has (id ∷ []) id ≡ true
-has_one id = or_left (eqb id id) false (eq-eqb id id refl)
-
-in_one : (ids : List ℕ) (id k : ℕ) → has ids id ≡ true → has (id ∷ []) k ≡ true → has ids k ≡ true
-in_one ids id k at h =
-    elim (or_cases (eqb id k) false h) [
-      | inl e ↦ let same : id ≡ k = eqb-true id k e in rw (← same) at
-      | inr f ↦ absurd (false≢true f)
-    ]
-
--- one clause implies its literal
-pub grown_one : (s : List (Option Stored)) (old new : Trace) (id l : ℕ) → IsUnit old.steps (slot_lits (slot s id)) l
-    → new.steps ≡ old.steps ++ record { lit = l; level = old.level; reason = Clause id } ∷ [] → new.level ≡ old.level → new.declared ≡ old.declared → Grown (id ∷ []) s old new
-grown_one s old new id l u steps level declared =
-    grown_push (id ∷ []) s old old new id l (grown_none (id ∷ []) s old) (has_one id) u steps level declared
-
--- the growth by some clauses is one by more
-pub grown_wider : (ids ids' : List ℕ) (s : List (Option Stored)) (old new : Trace) → ((k : ℕ) → has ids k ≡ true → has ids' k ≡ true) → Grown ids s old new → Grown ids' s old new
-grown_wider ids ids' s old new more g = record {
-  level = g.level;
-  declared = g.declared;
-  tail = g.tail;
-  steps = g.steps;
-  implied = λ i a b.
-      let h = g.implied i a b in
-      record { stands = h.stands; by = h.by; attached = more h.by h.attached; reason = h.reason; implied = h.implied };
-}
-
--- the growth of a growth, by one of the clauses, and by clauses of both kinds
-pub grown_turn : (ids : List ℕ) (s : List (Option Stored)) (a b c : Trace) (id : ℕ) → has ids id ≡ true → Grown ids s a b → Grown (id ∷ []) s b c → Grown ids s a c
-grown_turn ids s a b c id at g h = grown_more ids s a b c g (grown_wider (id ∷ []) ids s b c (λ k. in_one ids id k at) h)
-
-pub grown_left : (ids ids' all : List ℕ) (s : List (Option Stored)) (a b c : Trace) → ids ++ ids' ≡ all → Grown all s a b → Grown ids s b c → Grown all s a c
-grown_left ids ids' all s a b c e g h =
-    grown_more all s a b c g (grown_wider ids all s b c (λ k m. rw (← e) (has-append ids ids' k ∙ or_left (has ids k) (has ids' k) m)) h)
-
-pub grown_right : (ids ids' all : List ℕ) (s : List (Option Stored)) (a b c : Trace) → ids ++ ids' ≡ all → Grown all s a b → Grown ids' s b c → Grown all s a c
-grown_right ids ids' all s a b c e g h =
-    grown_more all s a b c g (grown_wider ids' all s b c (λ k m. rw (← e) (has-append ids ids' k ∙ or_right (has ids k) (has ids' k) m)) h)
-
--- a trail that did not grow
-pub same_steps : (ids : List ℕ) (s : List (Option Stored)) (a b : Trace) → Grown ids s a b → length b.steps ≡ length a.steps → b.steps ≡ a.steps
-same_steps ids s a b g same = g.steps ∙ go a.steps g.tail (rw (g.steps, length-append) at same) where
-  go : (t more : List Step) → length t + length more ≡ length t → t ++ more ≡ t
-  go t [] e = append-nil t
-  go t (x ∷ more) e = absurd (omega arith)
-
--- a round in which nothing was assigned found the clauses quiet
-pub quiet_turn : (ids : List ℕ) (s : List (Option Stored)) (old now new : Trace) (i id : ℕ) → i < length ids → id ≡ get_or ids i id → Grown ids s old now → Grown (id ∷ []) s now new
-    → (length now.steps ≡ length old.steps → AllQuiet (take i ids) s now.steps) → (length new.steps ≡ length now.steps → IsQuiet new.steps (slot_lits (slot s id)))
-    → length new.steps ≡ length old.steps → AllQuiet (take (i + 1) ids) s new.steps
-quiet_turn ids s old now new i id in' is g h before here same =
-    let a = grown_longer ids s old now g in
-    let b = grown_longer (id ∷ []) s now new h in
-    let still : length new.steps ≡ length now.steps = omega arith in
-    let quiet = before (omega arith) in
-    quiet_more ids s new.steps i id in' is (rw (same_steps (id ∷ []) s now new h still) quiet) (here still)
-
--- a clause that rested, or was looked at, rests after the look at one more
-pub rests_turn : (ids : List ℕ) (s : List (Option Stored)) (old now new : Trace) (i id : ℕ) (P : ℕ → Type 0) → i < length ids → id ≡ get_or ids i id → (by : List ℕ) → Grown by s old now → Grown (id ∷ []) s now new
-    → ((k : ℕ) → has (take i ids) k ≡ true → P k → Rests old.steps now.steps (slot_lits (slot s k)))
-    → (P id → Rests now.steps new.steps (slot_lits (slot s id)))
-    → (k : ℕ) → has (take (i + 1) ids) k ≡ true → P k → Rests old.steps new.steps (slot_lits (slot s k))
-rests_turn ids s old now new i id P in' is by g h before here k m p =
-    elim (has_more ids i id k in' is m) [
-      | inl a ↦ rw h.steps (longer now.steps h.tail (slot_lits (slot s k)) (before k a p))
-      | inr e ↦ let same : id ≡ k = e in rw (← same) (earlier g.tail (rw g.steps at (here (rw same p))))
-    ] where
-      longer : (t more : List Step) (c : List ℕ) → Rests old.steps t c → Rests old.steps (t ++ more) c
-      longer t more c (inl met) = inl (met_longer t more c met)
-      longer t more c (inr o) = inr o
-
-      earlier : (tail : List Step) → Rests (old.steps ++ tail) new.steps (slot_lits (slot s id)) → Rests old.steps new.steps (slot_lits (slot s id))
-      earlier tail (inl met) = inl met
-      earlier tail (inr o) = inr (open_front old.steps tail (slot_lits (slot s id)) o)
-
--- the same where the clause was not looked at
-pub rests_skip : (ids : List ℕ) (s : List (Option Stored)) (old now : Trace) (i id : ℕ) (P : ℕ → Type 0) → i < length ids → id ≡ get_or ids i id
-    → ((k : ℕ) → has (take i ids) k ≡ true → P k → Rests old.steps now.steps (slot_lits (slot s k)))
-    → (P id → ⊥)
-    → (k : ℕ) → has (take (i + 1) ids) k ≡ true → P k → Rests old.steps now.steps (slot_lits (slot s k))
-rests_skip ids s old now i id P in' is before none k m p =
-    elim (has_more ids i id k in' is m) [
-      | inl a ↦ before k a p
-      | inr e ↦ let same : id ≡ k = e in absurd (none (rw same p))
-    ]
 
 -- a clause that is added is not attached, and the attached ones stay
 pub ready_fresh : (ids : List ℕ) (s : List (Option Stored)) (n id : ℕ) → AllReady ids s n → slot s id ≡ None → has ids id ≡ false
@@ -212,3 +112,12 @@ from_none (Some x) P e h = absurd (false≢true (sym e))
 pub none_found : {A : Type 0} (r : Option A) (P : Type 0) → is_some r ≡ true → IfNone r P
 none_found None P e = absurd (false≢true e)
 none_found (Some x) P e = tt
+
+-- a clause of which one literal alone is not false implies that
+pub grown_assigned : (ids : List ℕ) (s : List (Option Stored)) (old new : Trace) (id l : ℕ) → has ids id ≡ true → IsUnit old.steps (slot_lits (slot s id)) l
+    → new.steps ≡ old.steps ++ record { lit = l; level = old.level; reason = Clause id } ∷ [] → new.level ≡ old.level → new.declared ≡ old.declared → Grown ids s old new
+grown_assigned ids s old new id l at u steps level declared = grown_push ids s old old new id l (grown_none ids s old) at u steps level declared
+
+-- the clauses stay ready on a trail that grew
+pub ready_grown : (ids : List ℕ) (s : List (Option Stored)) (a b : Trace) → Grown ids s a b → AllReady ids s a.declared → AllReady ids s b.declared
+ready_grown ids s a b g h = rw g.declared h

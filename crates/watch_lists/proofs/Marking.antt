@@ -1,6 +1,6 @@
 -- Laws of sets of ids that are kept as marks.
-use Rattle.std.proofs.Common.{◌≡◌, ℕ, zero, suc, ◌+◌, ◌<◌, Bool, true, false, ◌||◌, not, ◌&&◌, eqb, List, [], ◌∷◌, ◌++◌, refl, ap, ◌∙◌, arith}
-use Rattle.std.proofs.lemmas.Bool.{eq-eqb, ne_eqb}
+use Rattle.std.proofs.Common.{◌≡◌, ℕ, zero, suc, ◌+◌, ◌<◌, Bool, true, false, ◌||◌, not, ◌&&◌, eqb, List, [], ◌∷◌, ◌++◌, refl, sym, ap, ◌∙◌, ◌⊎◌, inl, inr, arith}
+use Rattle.std.proofs.lemmas.Bool.{eq-eqb, ne_eqb, true≢false, cases_eq}
 use Rattle.std.proofs.lemmas.List.Folds.{list_any-append}
 use Rattle.sat_terms.specs.Literal.{has}
 use Rattle.watch_lists.specs.Propagation.{marked, ids_from, ids_of}
@@ -22,21 +22,22 @@ pub has-ids_of : (marks : List Bool) (k : ℕ) → has (ids_of marks) k ≡ mark
 unfolding ids_of
 has-ids_of marks k = from_at 0 marks k k (omega arith)
 
--- a mark that is not set changes nothing
-from_longer : (n : ℕ) (marks : List Bool) → ids_from n (marks ++ false ∷ []) ≡ ids_from n marks
-from_longer n [] = refl
-from_longer n (true ∷ marks) = ap (λ ids. n ∷ ids) (from_longer (suc n) marks)
-from_longer n (false ∷ marks) = from_longer (suc n) marks
+-- where nothing is marked there are no ids
+none_from : (n : ℕ) (marks : List Bool) → ((k : ℕ) → marked marks k ≡ false) → ids_from n marks ≡ []
+none_from n [] none = refl
+none_from n (true ∷ marks) none = absurd (true≢false (none 0))
+none_from n (false ∷ marks) none = none_from (suc n) marks (λ k. none (suc k))
 
-pub ids_longer : (marks : List Bool) → ids_of (marks ++ false ∷ []) ≡ ids_of marks
+pub none_marked : (marks : List Bool) → ((k : ℕ) → marked marks k ≡ false) → ids_of marks ≡ []
 unfolding ids_of
-ids_longer marks = from_longer 0 marks
+none_marked marks none = none_from 0 marks none
 
-pub marked_longer : (marks : List Bool) (k : ℕ) → marked (marks ++ false ∷ []) k ≡ marked marks k
-marked_longer [] zero = refl
-marked_longer [] (suc k) = refl
-marked_longer (b ∷ marks) zero = refl
-marked_longer (b ∷ marks) (suc k) = marked_longer marks k
+flip : (a b : ℕ) → eqb a b ≡ eqb b a
+flip a b = elim (cases_eq a b) [ inl e ↦ rw e refl | inr n ↦ ne_eqb a b n ∙ sym (ne_eqb b a (λ e. n (sym e))) ]
+
+-- a mark taken out, by either order of the test
+pub taken_out : (old new : List Bool) (id : ℕ) → ((n : ℕ) → marked new n ≡ (marked old n && not (eqb id n))) → (k : ℕ) → marked new k ≡ (marked old k && not (eqb k id))
+taken_out old new id less k = less k ∙ ap (λ b. marked old k && not b) (flip id k)
 
 -- members of two lists
 pub has-append : (a b : List ℕ) (k : ℕ) → has (a ++ b) k ≡ (has a k || has b k)

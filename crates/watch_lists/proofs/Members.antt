@@ -19,14 +19,6 @@ has_taken (suc n) (y ∷ c) l h =
       | inr h' ↦ or_right (eqb y l) (has c l) (has_taken n c l h')
     ]
 
--- one more is in the front
-pub has_more : (c : List ℕ) (i x l : ℕ) → i < length c → x ≡ get_or c i x → has (take (i + 1) c) l ≡ true → (has (take i c) l ≡ true) ⊎ (x ≡ l)
-has_more c i x l in' is h =
-    elim (or_cases (has (take i c) l) (eqb x l) (sym (list_any_more (λ y. eqb y l) c i x in' ∙ rw (← is) refl) ∙ h)) [
-      | inl a ↦ inl a
-      | inr b ↦ inr (eqb-true x l b)
-    ]
-
 -- a member stands at a place, so what holds of all holds of it
 pub has_place : (c : List ℕ) (l d : ℕ) → has c l ≡ true → (k : ℕ) × (k < length c) × (get_or c k d ≡ l)
 has_place [] l d h = absurd (false≢true h)

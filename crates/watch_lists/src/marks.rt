@@ -1,16 +1,20 @@
-//! Sets of ids of clauses.
-ghost use Rattle.std.specs.Prelude.{◌≡◌, ◌<◌, ◌||◌, ◌&&◌, ◌==◌, ℕ, [], false, not, length, OnOk, OnErr};
+//! The set of the attached ids, as propagation asks for it.
+//!
+//! It is a set of flags, so that asking, putting in and taking out cost the same however many members there are.
+ghost use Rattle.std.specs.Prelude.{◌≡◌, ◌||◌, ◌&&◌, ◌==◌, ℕ, [], not, OnOk, OnErr};
+ghost use Rattle.sat_terms.specs.Literal.{has};
 ghost use Rattle.watch_lists.specs.Propagation.{marked, ids_of};
 
-use sat_model::lists::ClauseId;
+use flag_set::set::FlagSet;
+use sat_model::lists::{ClauseId, Ids};
 use sat_model::memory::Memory;
 use std::alloc::Global;
 use std::marker::Model;
 
-// A set of ids, with a mark at the number of each member.
+// A set of ids. Contracts see a mark at the number of each member.
 #[derive(Drop)]
 pub(crate) struct Marks {
-    marks: Vec<bool>,
+    ids: FlagSet<ClauseId>,
 }
 
 impl Model for Marks {
@@ -18,16 +22,16 @@ impl Model for Marks {
 
     ghost Value = { List Bool };
 
-    ghost view = { λ s. s.marks.items };
+    ghost view = { λ s. s.ids };
 }
 
 impl Marks {
     // The empty set.
     pub(crate) fn new(alloc: Global) -> Marks
-        ensures { result ≡ [] }
+        ensures { ids_of result ≡ [] }
     {
         Marks {
-            marks: Vec::new(alloc),
+            ids: FlagSet::new(alloc),
         }
     }
 
@@ -35,45 +39,32 @@ impl Marks {
     pub(crate) fn holds(&self, id: ClauseId) -> bool
         ensures { result ≡ marked self.now id }
     {
-        let at = id.index();
-        if at < self.marks.len() {
-            self.marks[at]
-        } else {
-            false
-        }
+        self.ids.has(id)
     }
 
-    // Makes room for the mark of an id; the members stay.
-    fn reach(&mut self, at: usize) -> Result<(), Memory>
-        ensures long { OnOk result (at < length self.new) }
-        ensures same { (k : ℕ) → marked self.new k ≡ marked self.old k }
-        ensures ids { ids_of self.new ≡ ids_of self.old }
-    {
-        while self.marks.len() <= at {
-            self.marks.push(false)?;
-        }
-        Ok(())
-    }
-
-    // Puts an id in. After `Memory` the members are as before.
+    // Puts an id in. After `Memory` the set is as before.
     pub(crate) fn add(&mut self, id: ClauseId) -> Result<(), Memory>
         ensures ok { OnOk result ((k : ℕ) → marked self.new k ≡ (marked self.old k || id == k)) }
-        ensures err { OnErr result ((k : ℕ) → marked self.new k ≡ marked self.old k) }
-        ensures ids { OnErr result (ids_of self.new ≡ ids_of self.old) }
+        ensures err { OnErr result (self.new ≡ self.old) }
     {
-        let at = id.index();
-        self.reach(at)?;
-        self.marks[at] = true;
-        Ok(())
+        self.ids.put(id)
     }
 
     // Takes an id out.
     pub(crate) fn remove(&mut self, id: ClauseId)
         ensures { (k : ℕ) → marked self.new k ≡ (marked self.old k && not (k == id)) }
     {
-        let at = id.index();
-        if at < self.marks.len() {
-            self.marks[at] = false;
+        self.ids.take_out(id);
+    }
+
+    // Takes ids out.
+    pub(crate) fn remove_all(&mut self, ids: &Ids)
+        ensures { (k : ℕ) → marked self.new k ≡ (marked self.old k && not (has ids.now k)) }
+    {
+        let mut k = 0;
+        'each: while k < ids.len() {
+            self.remove(ids.id(k));
+            k += 1;
         }
     }
 }

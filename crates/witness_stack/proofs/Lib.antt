@@ -1,1 +1,4 @@
+pub mod Counted
 pub mod Extending
+pub mod Gaps
+pub mod Rows

@@ -1,1 +1,3 @@
+pub mod Counts
+pub mod Gap
 pub mod MarkSet

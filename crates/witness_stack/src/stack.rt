@@ -1,12 +1,16 @@
 //! Reconstruction stacks.
 ghost use Rattle.std.specs.Prelude.{◌≡◌, ◌<◌, ◌==◌, ◌↔◌, ◌++◌, [], ◌∷◌, length, OnErr, OnOk, IsTrue, remove, IfSome, IfNone};
+ghost use Rattle.std.specs.List.{list_all};
+ghost use Rattle.sat_terms.specs.Literal.{neg as opposite};
 ghost use Rattle.sat_terms.specs.Truth.{values};
 ghost use Rattle.sat_terms.specs.Answer.{Within};
 ghost use Rattle.redundancy.specs.Setting.{IsApart, set_true};
-ghost use Rattle.redundancy.specs.Redundancy.{Clean, IsEntry, IsStack, StackWithin, entry, extend as extension, is_clean as clean_test, touches as touched};
+ghost use Rattle.redundancy.specs.Redundancy.{Clean, IsEntry, IsStack, StackWithin, entry, extend as extension};
+ghost use Rattle.witness_stack.specs.Counts.{count_at};
 ghost use Rattle.witness_stack.specs.MarkSet.{NoneTainted, IsFirstTainted};
 
-use crate::entries::{Entries, Entry};
+use crate::counts::WitnessCounts;
+use crate::entries::Entries;
 use crate::marks::Marks;
 use sat_model::literal::Lit;
 use sat_model::memory::Memory;
@@ -18,32 +22,29 @@ use std::marker::Model;
 /// entry it keeps that the witness holds no opposite literals, that the clause is normal, and that they share a literal.
 #[derive(Drop)]
 pub struct Stack {
+    // The entries, oldest first.
     entries: Entries,
+    // For each literal how many places of witnesses hold it.
+    counts: WitnessCounts,
 }
 
 impl Model for Stack {
     ghost use Rattle.std.specs.Prelude.{List};
-    ghost use Rattle.redundancy.specs.Redundancy.{Entry as EntryOf, IsStack};
+    ghost use Rattle.redundancy.specs.Redundancy.{Entry as EntryOf};
+    ghost use Rattle.witness_stack.specs.Counts.{IsCountedStack};
 
     ghost Value = { List EntryOf };
 
     ghost view = { λ s. s.entries };
 
-    ghost invariant = { λ s. IsStack s.entries };
+    ghost invariant = { λ s. IsCountedStack s.entries s.counts };
 }
 
-// Whether a witness holds the negation of one of the literals.
-fn touches(witness: &[Lit], lits: &[Lit]) -> bool
-    ensures { result ≡ touched witness.now lits.now }
+// Whether no negation of one of the literals is counted.
+fn all_free(counts: &WitnessCounts, lits: &[Lit]) -> bool
+    ensures { result ≡ list_all (λ l. count_at counts.now (opposite l) == 0) lits.now }
 {
-    lits.iter().any(|l| witness.contains(&l.neg()))
-}
-
-// Whether no witness holds the negation of one of the literals.
-fn all_untouched(entries: &[Entry], lits: &[Lit]) -> bool
-    ensures { result ≡ clean_test lits.now entries.now }
-{
-    entries.iter().all(|e| !touches(e.witness(), lits))
+    lits.iter().all(|l| counts.is_free(l.neg()))
 }
 
 // Sets the literals true.
@@ -64,6 +65,7 @@ impl Stack {
     {
         Stack {
             entries: Entries::new(alloc),
+            counts: WitnessCounts::new(alloc),
         }
     }
 
@@ -82,7 +84,7 @@ impl Stack {
     }
 
     /// What holds of every stack. The call does nothing.
-    pub fn has_witnesses(&self)
+    pub fn law_witnesses(&self)
         ensures { IsStack self.now }
     {
         let _ = &self.entries;
@@ -95,7 +97,14 @@ impl Stack {
         ensures ok { OnOk result (self.new ≡ self.old ++ record { witness = witness.now; clause = clause.now } ∷ []) }
         ensures err { OnErr result (self.new ≡ self.old) }
     {
-        self.entries.push(witness, clause)
+        self.counts.add(witness)?;
+        match self.entries.push(witness, clause) {
+            Ok(()) => Ok(()),
+            Err(memory) => {
+                self.counts.remove(witness);
+                Err(memory)
+            }
+        }
     }
 
     /// The witness of the entry at a place below `len()`.
@@ -119,15 +128,16 @@ impl Stack {
         requires { k < length self.old }
         ensures { self.new ≡ remove self.old k }
     {
+        self.counts.remove(self.entries.witness(k));
         self.entries.take_out(k);
+        self.entries.close();
     }
 
     /// Whether the literals are clean: no witness holds the negation of one of them.
     pub fn is_clean(&self, lits: &[Lit]) -> bool
-        ensures test { result ≡ clean_test lits.now self.now }
-        ensures clean { IsTrue result ↔ Clean lits.now self.now }
+        ensures { IsTrue result ↔ Clean lits.now self.now }
     {
-        all_untouched(self.entries.as_slice(), lits)
+        all_free(&self.counts, lits)
     }
 
     /// The first entry, at the place `from` or after it, whose witness holds a marked literal. `None` exactly where there is

@@ -1,4 +1,4 @@
-use Rattle.std.proofs.Common.{arith, refl}
+use Rattle.std.proofs.Common.{◌∙◌, arith, refl}
 use Rattle.io_edge.proofs.Taking.{takes_more, takes_rest, takes_end, not_needed}
 use Rattle.io_edge.proofs.lines.gather.Goals as goal
 
@@ -29,6 +29,6 @@ loop-found-preserved g c =
     record {
       so_far = rw moved.2 (takes_more _ _ _ _ _ _ _ c.loop-found.invariant.so_far moved.0 c.in-Ok-fill.ensures.ok);
       short = omega (arith, c.in-None.ensures.none);
-      later = omega (arith, c.fill.ensures.cause.later);
+      kept = c.in-Ok-fill.ensures.cause.kept ∙ c.loop-found.invariant.kept;
       unread = not_needed _ _ _ _ _ c.loop-found.invariant.so_far moved.0;
     }

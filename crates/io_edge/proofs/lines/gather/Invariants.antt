@@ -10,7 +10,7 @@ invariant-loop-found g l =
     record {
       so_far : Takes (left l.fn.source) (left l.source) l.fn.ahead l.ahead l.line.items [];
       short : length l.line.items ≤ 16777216;
-      later : faults l.fn.source ≤ faults l.source;
+      kept : faults l.source ≡ faults l.fn.source;
       unread : Contains l.fn.ahead 10 → l.source ≡ l.fn.source;
     }
 

@@ -1,4 +1,4 @@
-use Rattle.std.proofs.Common.{take, drop, arith}
+use Rattle.std.proofs.Common.{◌∙◌, take, drop, arith}
 use Rattle.std.proofs.Math.Seq.{take-add}
 use Rattle.std.proofs.KnownBytes.{Appends-trans}
 use Rattle.std.specs.Io.KnownBytes.{Appends}
@@ -14,5 +14,5 @@ loop-at-preserved g c =
     record {
       within = omega (arith, bound);
       bytes = rw take-add (Appends-trans _ _ _ _ _ c.loop-at.invariant.bytes here);
-      later = omega (arith, c.write.ensures.cause.later);
+      kept = c.in_ok-at.ensures.cause.kept ∙ c.loop-at.invariant.kept;
     }

@@ -1,4 +1,4 @@
-use Rattle.std.proofs.Common.{◌≤◌, inl}
+use Rattle.std.proofs.Common.{◌≤◌, inl, refl}
 use Rattle.sat_terms.specs.Literal.{var_of}
 use Rattle.watch_lists.proofs.Members.{All-has}
 use Rattle.search_engine.proofs.Choices.{decides, decides_assumed, decided_next, decided_keeps, decided_passed}
@@ -6,22 +6,22 @@ use Rattle.search_engine.proofs.choice.assume.Goals as goal
 
 pub decide-requires-clause-declared : goal.decide-requires-clause-declared
 decide-requires-clause-declared c =
-    (All-has (λ k. (1 ≤ var_of k) × (var_of k ≤ c.args.core.now.trail.declared)) c.args.assumptions.now c.args.lit c.requires.stands.ready.assumed c.requires.assumed).1
+    (All-has (λ k. (1 ≤ var_of k) × (var_of k ≤ c.args.state.now.trail.declared)) c.args.assumptions.now c.args.lit c.requires.stands.ready.assumed c.requires.assumed).1
 
 pub returns-then-is_none-clause-turn : goal.returns-then-is_none-clause-turn
 returns-then-is_none-clause-turn c =
-    let d = decides c.args.core.now c.decide.new.self c.args.lit c.decide.ensures.declared c.decide.ensures.steps in
-    decided_next c.args.assumptions.now _ _ c.args.lit d c.goes_on_following.ensures.appended c.requires.stands (inl c.requires.assumed)
+    let d = decides c.args.state.now c.args.state.now.order c.decide.new.self c.args.lit c.decide.ensures.declared c.decide.ensures.steps c.requires.stands.ready.orderly refl in
+    decided_next c.args.assumptions.now _ _ c.args.lit d c.law_following.ensures.appended c.requires.stands c.law_room.ensures.steps (inl c.requires.assumed)
 
 pub returns-then-is_none-clause-keeps : goal.returns-then-is_none-clause-keeps
 returns-then-is_none-clause-keeps c =
-    let d = decides c.args.core.now c.decide.new.self c.args.lit c.decide.ensures.declared c.decide.ensures.steps in
-    decided_keeps c.args.assumptions.now _ _ c.args.lit d c.requires.stands.ready
+    let d = decides c.args.state.now c.args.state.now.order c.decide.new.self c.args.lit c.decide.ensures.declared c.decide.ensures.steps c.requires.stands.ready.orderly refl in
+    decided_keeps c.args.assumptions.now _ _ c.args.lit d c.law_following.ensures.appended c.requires.stands.ready
 
 pub returns-then-is_none-clause-passed : goal.returns-then-is_none-clause-passed
 returns-then-is_none-clause-passed c =
-    let d = decides c.args.core.now c.decide.new.self c.args.lit c.decide.ensures.declared c.decide.ensures.steps in
+    let d = decides c.args.state.now c.args.state.now.order c.decide.new.self c.args.lit c.decide.ensures.declared c.decide.ensures.steps c.requires.stands.ready.orderly refl in
     decided_passed c.args.assumptions.now _ _ c.args.lit d
 
 pub core_of-requires-clause-decisions : goal.core_of-requires-clause-decisions
-core_of-requires-clause-decisions c = decides_assumed c.args.assumptions.now c.args.core.now.trail.steps c.args.lit c.requires.stands.first c.requires.assumed c.requires.untrue
+core_of-requires-clause-decisions c = decides_assumed c.args.assumptions.now c.args.state.now.trail.steps c.args.lit c.requires.stands.first c.requires.assumed c.requires.untrue

@@ -1,36 +1,29 @@
+use Rattle.search_engine.proofs.Counts.{counts_start}
 use Rattle.std.proofs.Common.{refl, ap, ◌∙◌}
-use Rattle.search_engine.proofs.Readying.{each_has}
-use Rattle.search_engine.proofs.Choices.{keeps_same}
-use Rattle.search_engine.proofs.Looping.{started_stands, names_learned, keeps_more, found_before, measure_falls}
+use Rattle.search_engine.proofs.Keeping.{ready_same, keeps_same, keeps_more}
+use Rattle.search_engine.proofs.Orders.{orderly_picked}
+use Rattle.search_engine.proofs.Looping.{first_at_root, found_before}
 use Rattle.search_engine.proofs.search.search.Goals as goal
 
-pub loop-firm-init : goal.loop-firm-init
-loop-firm-init c = record {
-  stands = started_stands c.args.assumptions.now c.args.core.now _ c.requires.ready c.has_shape.ensures c.requires.root refl refl refl refl (ap (λ t. t.is_spent) c.start.ensures) (ap (λ t. t.owes) c.start.ensures);
-  listed = rw c.in_ok-firm.ensures.items (each_has _ c.firm_ids.result.now c.firm_ids.ensures);
-  passed = c.start-cursor.ensures c.args.assumptions.now _ _;
-  keeps = keeps_same c.args.assumptions.now c.args.core.now _ c.requires.ready refl refl refl;
-  budget = ap (λ t. t.budget) c.start.ensures;
-}
-
-pub loop-firm-preserved : goal.loop-firm-preserved
-loop-firm-preserved c =
-    let turn = c.in_ok-take_turn.ensures in
-    let next = rw c.in-Goes.is at turn.turn in
-    let before = c.loop-firm.invariant in
+pub loop-found-init : goal.loop-found-init
+loop-found-init c =
+    let ready = c.requires.ready in
+    let trail = c.args.state.now.trail in
+    let same = c.stable.ensures.same in
+    let orderly = orderly_picked c.args.state.now.order c.stable.new.self trail same (c.stable.ensures.follows trail) ready.orderly in
     record {
-      stands = next.stands;
-      listed = names_learned _ c.loop-firm.core.store c.take_turn.new.core.store turn.keeps.learns before.listed;
-      passed = rw c.as_slice.ensures.value at turn.passed;
-      keeps = keeps_more _ c.loop-firm.core _ before.keeps turn.keeps;
-      budget = turn.budget ∙ before.budget;
+      stands = record {
+        ready = ready_same _ c.args.state.now _ ready refl refl refl refl refl same.declared orderly;
+        first = first_at_root _ _ _ c.law_shape.ensures c.requires.root;
+        unspent = ap (λ t. t.is_spent) c.start.ensures;
+        settled = ap (λ t. t.owes) c.start.ensures;
+      };
+      passed = c.start-cursor.ensures c.args.assumptions.now _;
+      keeps = keeps_same c.args.assumptions.now c.args.state.now _ ready refl refl refl refl refl same.declared orderly;
+      budget = ap (λ t. t.budget) c.start.ensures;
+      counted = counts_start c.args.state.now.tally.total c.start.new.self (ap (λ t. t.total) c.start.ensures) (ap (λ t. t.count) c.start.ensures) c.total.ensures.range.bounded;
     }
-
-pub loop-firm-smaller : goal.loop-firm-smaller
-loop-firm-smaller c =
-    let next = rw c.in-Goes.is at c.in_ok-take_turn.ensures.turn in
-    measure_falls _ _ _ _ c.in_ok-take_turn.ensures.keeps.declared c.has_room.ensures.steps next.rises
 
 pub returns-in-Ends-clause-found : goal.returns-in-Ends-clause-found
 returns-in-Ends-clause-found c =
-    found_before c.args.assumptions.now c.args.core.now c.loop-firm.core c.take_turn.new.core c.loop-firm.invariant.keeps c.in-Ends.found (rw c.in-Ends.is at c.in_ok-take_turn.ensures.turn)
+    found_before c.args.assumptions.now c.args.state.now c.loop-found.state c.take_turn.new.state c.loop-found.invariant.keeps c.in-Ends.found (rw c.in-Ends.is at c.in_ok-take_turn.ensures.turn)

@@ -1,35 +1,41 @@
-use Rattle.search_engine.proofs.Looping.{propagates, ok_more, ok_always, propagated_stands, propagated_passed, propagated_turn}
+use Rattle.search_engine.proofs.Looping.{propagates, ok_more, ok_always, propagated_stands, propagated_passed, propagated_turn, propagated_keeps}
 use Rattle.search_engine.proofs.search.take_turn.Goals as goal
 
 pub resolve-requires-clause-stands : goal.resolve-requires-clause-stands
 resolve-requires-clause-stands c =
     let e = c.propagate.ensures in
-    let p = propagates c.args.core.now c.propagate.new.self c.propagate.new.trail e.attached e.declared e.follows e.grown in
-    propagated_stands c.args.assumptions.now c.args.core.now _ p c.requires.stands
+    let p = propagates c.args.state.now c.propagate.new.self c.propagate.new.trail e.attached e.declared e.follows e.grown in
+    propagated_stands c.args.assumptions.now c.args.state.now _ p c.requires.stands
 
 pub choose-requires-clause-stands : goal.choose-requires-clause-stands
 choose-requires-clause-stands c =
     let e = c.propagate.ensures in
-    let p = propagates c.args.core.now c.propagate.new.self c.propagate.new.trail e.attached e.declared e.follows e.grown in
-    propagated_stands c.args.assumptions.now c.args.core.now _ p c.requires.stands
+    let p = propagates c.args.state.now c.propagate.new.self c.propagate.new.trail e.attached e.declared e.follows e.grown in
+    propagated_stands c.args.assumptions.now c.args.state.now _ p c.requires.stands
 
 pub choose-requires-clause-passed : goal.choose-requires-clause-passed
 choose-requires-clause-passed c =
     let e = c.propagate.ensures in
-    let p = propagates c.args.core.now c.propagate.new.self c.propagate.new.trail e.attached e.declared e.follows e.grown in
-    propagated_passed c.args.assumptions.now c.args.core.now _ p c.args.firm.now c.args.cursor.now c.requires.passed
+    let p = propagates c.args.state.now c.propagate.new.self c.propagate.new.trail e.attached e.declared e.follows e.grown in
+    propagated_passed c.args.assumptions.now c.args.state.now _ p c.args.cursor.now c.requires.passed
 
 pub returns-in-Some-clause-turn : goal.returns-in-Some-clause-turn
 returns-in-Some-clause-turn c =
     let e = c.propagate.ensures in
-    let p = propagates c.args.core.now c.propagate.new.self c.propagate.new.trail e.attached e.declared e.follows e.grown in
-    ok_more c.resolve.result _ _ (propagated_turn c.args.assumptions.now c.args.core.now _ c.resolve.new.core p c.requires.stands.ready) c.resolve.ensures.turn
+    let p = propagates c.args.state.now c.propagate.new.self c.propagate.new.trail e.attached e.declared e.follows e.grown in
+    ok_more c.resolve.result _ _ (propagated_turn c.args.assumptions.now c.args.state.now _ c.resolve.new.state p c.requires.stands.ready) c.resolve.ensures.turn
 
 pub returns-in-Some-clause-passed : goal.returns-in-Some-clause-passed
-returns-in-Some-clause-passed c = ok_always c.resolve.result _ (λ turn. c.start.ensures c.args.assumptions.now c.args.firm.now c.resolve.new.core)
+returns-in-Some-clause-passed c = ok_always c.resolve.result _ (λ turn. c.start.ensures c.args.assumptions.now c.resolve.new.state)
 
 pub returns-in-None-clause-turn : goal.returns-in-None-clause-turn
 returns-in-None-clause-turn c =
     let e = c.propagate.ensures in
-    let p = propagates c.args.core.now c.propagate.new.self c.propagate.new.trail e.attached e.declared e.follows e.grown in
-    ok_more c.choose.result _ _ (propagated_turn c.args.assumptions.now c.args.core.now _ c.choose.new.core p c.requires.stands.ready) c.choose.ensures.turn
+    let p = propagates c.args.state.now c.propagate.new.self c.propagate.new.trail e.attached e.declared e.follows e.grown in
+    ok_more c.choose.result _ _ (propagated_turn c.args.assumptions.now c.args.state.now _ c.choose.new.state p c.requires.stands.ready) c.choose.ensures.turn
+
+pub returns-in_err-conflict-clause-keeps : goal.returns-in_err-conflict-clause-keeps
+returns-in_err-conflict-clause-keeps c =
+    let e = c.propagate.ensures in
+    let p = propagates c.args.state.now c.propagate.new.self c.propagate.new.trail e.attached e.declared e.follows e.grown in
+    propagated_keeps _ _ _ p c.requires.stands.ready

@@ -1,4 +1,5 @@
 use Rattle.std.proofs.Common.{◌≡◌, ◌-◌, ◌+◌, ◌∙◌, arith}
+use Rattle.assumption_core.proofs.Walking.{core_rest}
 use Rattle.assumption_core.proofs.needs.Needs.trace_back.Goals as goal
 
 pub walk-preserved : goal.walk-preserved
@@ -9,6 +10,4 @@ walk-preserved c =
     (omega arith, c.resolve.ensures.falsified ∙ i.1, c.resolve.ensures.marked, λ test b. c.resolve.ensures.blocked test (rw e (i.3 test b)))
 
 pub returns-clause-blocked : goal.returns-clause-blocked
-returns-clause-blocked c =
-    let z : c.walk.place ≡ 0 = omega (arith, c.walk-test.false) in
-    rw z at c.walk.invariant.3
+returns-clause-blocked c = λ test b. core_rest _ c.args.trail.now.steps _ c.walk.place c.start_of-end.result c.walk.invariant.2 c.start_of-end.ensures c.walk-test.false (c.walk.invariant.3 test b)

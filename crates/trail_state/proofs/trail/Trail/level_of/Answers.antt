@@ -1,19 +1,32 @@
-use Rattle.std.proofs.Common.{◌≡◌, ◌∙◌, Some, sym, ap, arith}
-use Rattle.trail_state.specs.Trail.{place_on}
-use Rattle.trail_state.proofs.Places.{level_none, level_at, place_some, step_read}
+use Rattle.std.proofs.Common.{◌-◌, sym, arith}
+use Rattle.trail_state.proofs.Places.{level_none}
+use Rattle.trail_state.proofs.Holding.{entry_past, entry_zero_at, level_here}
 use Rattle.trail_state.proofs.trail.Trail.level_of.Goals as goal
-use Rattle.trail_state.proofs.trail.Trail.level_of.Goals.{After-self, After-index}
 
-pub returns-in_err-place : goal.returns-in_err-place
-returns-in_err-place c = c.from_residual.ensures ∙ sym (level_none _ _ (sym c.in_err-place.ensures))
+pub returns-then-at-len : goal.returns-then-at-len
+returns-then-at-len c =
+    let r = c.index.ensures.range.0 in
+    let v = c.index.ensures.value in
+    let long = c.len.ensures in
+    let ok = c.self.inside.entries.ok.0 in
+    let past = c.if-at-len.true in
+    rw (← c.self.view_is) (sym (level_none _ _ (entry_past _ _ _ _ _ _ _ c.args.var (c.index.result - 1) c.self.invariant.0 (omega arith) (omega arith) (omega arith))))
 
-pub index-requires : goal.index-requires
-index-requires c =
-    let at = place_some _ _ _ (rw (← c.self.view_is) at (sym c.in_ok-place.ensures)) in
-    omega (arith, at.0, c.self.inside.steps.ok.0)
+pub returns-then-entry-eq0 : goal.returns-then-entry-eq0
+returns-then-entry-eq0 c =
+    let r = c.index.ensures.range.0 in
+    let v = c.index.ensures.value in
+    let long = c.len.ensures in
+    let ok = c.self.inside.entries.ok.0 in
+    let in' = c.if-at-len.false in
+    rw (← c.self.view_is) (sym (level_none _ _ (entry_zero_at _ _ _ _ _ _ _ c.args.var (c.index.result - 1) c.index-entry.result.now c.self.invariant.0 (omega arith) (omega arith) (omega arith) c.index-entry.ensures c.if-entry-eq0.true)))
 
 pub returns : goal.returns
 returns c =
-    let place : place_on c.self.inside.steps.items c.args.var ≡ Some c.in_ok-place.place = rw (← c.self.view_is) at (sym c.in_ok-place.ensures) in
-    let x = step_read _ _ _ (place_some _ _ _ place).0 c.index.ensures in
-    rw (← c.self.view_is) (ap (λ x. Some x.level) x ∙ sym (level_at _ _ _ place))
+    let r = c.index.ensures.range.0 in
+    let v = c.index.ensures.value in
+    let long = c.len.ensures in
+    let ok = c.self.inside.entries.ok.0 in
+    let in' = c.if-at-len.false in
+    let n = c.if-entry-eq0.false in
+    rw (← c.self.view_is) (sym (level_here _ _ _ _ _ _ _ c.args.var (c.index.result - 1) c.index-entry.result.now c.self.invariant.0 (omega arith) (omega arith) (omega arith) c.index-entry.ensures (omega arith)))

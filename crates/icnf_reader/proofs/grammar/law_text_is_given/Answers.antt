@@ -1,0 +1,5 @@
+use Rattle.icnf_reader.proofs.Grammars.{law_text_is_given}
+use Rattle.icnf_reader.proofs.grammar.law_text_is_given.Goals as goal
+
+pub returns : goal.returns
+returns c = law_text_is_given

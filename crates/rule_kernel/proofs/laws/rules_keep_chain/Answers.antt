@@ -1,5 +1,0 @@
-use Rattle.rule_kernel.proofs.Chained.{rules_keep}
-use Rattle.rule_kernel.proofs.laws.rules_keep_chain.Goals as goal
-
-pub returns : goal.returns
-returns c = rules_keep

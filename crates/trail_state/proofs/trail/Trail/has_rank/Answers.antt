@@ -1,5 +1,0 @@
-use Rattle.trail_state.proofs.Ranks.{rank-bound}
-use Rattle.trail_state.proofs.trail.Trail.has_rank.Goals as goal
-
-pub returns : goal.returns
-returns c = rank-bound _ _

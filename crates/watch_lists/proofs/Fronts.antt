@@ -1,0 +1,178 @@
+-- Laws of the two literals in front of a copy.
+use Rattle.std.proofs.Common.{◌≡◌, ◌≢◌, ℕ, suc, zero, ◌<◌, ◌≤◌, Bool, true, false, not, ◌&&◌, eqb, List, [], ◌∷◌, length, length-set, get_or, set, inl, inr, refl, sym, ap, ◌∙◌, arith}
+use Rattle.std.specs.Prelude.{filter}
+use Rattle.std.proofs.lemmas.Bool.{cases_eq, or_cases, or_left, or_right, eq-eqb, ne_eqb, eqb-true}
+use Rattle.std.proofs.lemmas.List.{get_or-set_same, get_or-set_other}
+use Rattle.sat_terms.specs.Literal.{has, neg}
+use Rattle.sat_terms.proofs.Members.{same_tests}
+use Rattle.trail_state.specs.declared.trail.Step.{Step}
+use Rattle.trail_state.specs.Trail.{true_on}
+use Rattle.watch_lists.specs.Watching.{front, swapped, copied, SameLits}
+use Rattle.watch_lists.specs.Visiting.{OtherOf, NoneFrom, NoNext}
+use Rattle.watch_lists.proofs.Members.{has_place}
+
+pub has_here : (c : List ℕ) (k l : ℕ) → k < length c → get_or c k 0 ≡ l → has c l ≡ true
+has_here [] k l in' is = absurd (omega arith)
+has_here (x ∷ c) zero l in' is = or_left (eqb x l) (has c l) (eq-eqb x l is)
+has_here (x ∷ c) (suc k) l in' is = or_right (eqb x l) (has c l) (has_here c k l (omega arith) is)
+
+-- two members exchanged
+pub swapped_long : (c : List ℕ) (i j : ℕ) → length (swapped c i j) ≡ length c
+swapped_long c i j = length-set (set c i (get_or c j 0)) j (get_or c i 0) ∙ length-set c i (get_or c j 0)
+
+pub has_swapped : (c : List ℕ) (i j l : ℕ) → i < length c → j < length c → has (swapped c i j) l ≡ has c l
+has_swapped c i j l in-i in-j = same_tests (has (swapped c i j) l) (has c l) there back where
+  c1 : List ℕ
+  c1 = set c i (get_or c j 0)
+
+  there : has (swapped c i j) l ≡ true → has c l ≡ true
+  there h =
+      let r = has_place (swapped c i j) l 0 h in
+      let k = r.0 in
+      let size = swapped_long c i j in
+      let size1 : length (set c i (get_or c j 0)) ≡ length c = length-set c i (get_or c j 0) in
+      let within = r.1 in
+      elim (cases_eq k j) [
+        | inl e ↦
+            let a : get_or (swapped c i j) k 0 ≡ get_or c i 0 = ap (λ z. get_or (swapped c i j) z 0) e ∙ get_or-set_same (set c i (get_or c j 0)) j (get_or c i 0) 0 (omega arith) in
+            has_here c i l in-i (sym a ∙ r.2)
+        | inr n ↦
+            let a : get_or (swapped c i j) k 0 ≡ get_or (set c i (get_or c j 0)) k 0 = get_or-set_other (set c i (get_or c j 0)) j k (get_or c i 0) 0 n in
+            elim (cases_eq k i) [
+              | inl e ↦
+                  let b : get_or (set c i (get_or c j 0)) k 0 ≡ get_or c j 0 = ap (λ z. get_or (set c i (get_or c j 0)) z 0) e ∙ get_or-set_same c i (get_or c j 0) 0 in-i in
+                  has_here c j l in-j (sym b ∙ sym a ∙ r.2)
+              | inr m ↦
+                  let b : get_or (set c i (get_or c j 0)) k 0 ≡ get_or c k 0 = get_or-set_other c i k (get_or c j 0) 0 m in
+                  has_here c k l (omega arith) (sym b ∙ sym a ∙ r.2)
+            ]
+      ]
+
+  back : has c l ≡ true → has (swapped c i j) l ≡ true
+  back h =
+      let r = has_place c l 0 h in
+      let k = r.0 in
+      let size = swapped_long c i j in
+      let size1 : length (set c i (get_or c j 0)) ≡ length c = length-set c i (get_or c j 0) in
+      let within = r.1 in
+      elim (cases_eq k i) [
+        | inl e ↦
+            let a : get_or (swapped c i j) j 0 ≡ get_or c i 0 = get_or-set_same (set c i (get_or c j 0)) j (get_or c i 0) 0 (omega arith) in
+            has_here (swapped c i j) j l (omega arith) (a ∙ ap (λ z. get_or c z 0) (sym e) ∙ r.2)
+        | inr n ↦
+            elim (cases_eq k j) [
+              | inl e ↦
+                  let n' : i ≢ j = λ q. n (e ∙ sym q) in
+                  let a : get_or (swapped c i j) i 0 ≡ get_or (set c i (get_or c j 0)) i 0 = get_or-set_other (set c i (get_or c j 0)) j i (get_or c i 0) 0 n' in
+                  let b : get_or (set c i (get_or c j 0)) i 0 ≡ get_or c j 0 = get_or-set_same c i (get_or c j 0) 0 in-i in
+                  has_here (swapped c i j) i l (omega arith) (a ∙ b ∙ ap (λ z. get_or c z 0) (sym e) ∙ r.2)
+              | inr m ↦
+                  let a : get_or (swapped c i j) k 0 ≡ get_or (set c i (get_or c j 0)) k 0 = get_or-set_other (set c i (get_or c j 0)) j k (get_or c i 0) 0 m in
+                  let b : get_or (set c i (get_or c j 0)) k 0 ≡ get_or c k 0 = get_or-set_other c i k (get_or c j 0) 0 n in
+                  has_here (swapped c i j) k l (omega arith) (a ∙ b ∙ r.2)
+            ]
+      ]
+
+-- two different literals in front say that there are two
+pub two_long : (c : List ℕ) → (front c).first ≢ (front c).second → 2 ≤ length c
+two_long [] n = absurd (n refl)
+two_long (a ∷ []) n = absurd (n refl)
+two_long (a ∷ b ∷ c) n = omega arith
+
+pub front_read : (c : List ℕ) (x y : ℕ) → 2 ≤ length c → x ≡ get_or c 0 x → y ≡ get_or c 1 y → front c ≡ record { first = x; second = y }
+front_read [] x y two a b = absurd (omega arith)
+front_read (p ∷ []) x y two a b = absurd (omega arith)
+front_read (p ∷ q ∷ c) x y two a b = rw (a, b) refl
+
+-- what is in front once a literal that is not is exchanged with the second, and with the first
+pub front_second : (c : List ℕ) (k : ℕ) → 2 ≤ k → k < length c → front (swapped c 1 k) ≡ record { first = (front c).first; second = get_or c k 0 }
+front_second [] k late in' = absurd (omega arith)
+front_second (a ∷ []) k late in' = absurd (omega arith)
+front_second (a ∷ b ∷ c) zero late in' = absurd (omega arith)
+front_second (a ∷ b ∷ c) (suc zero) late in' = absurd (omega arith)
+front_second (a ∷ b ∷ c) (suc (suc k)) late in' = refl
+
+pub front_turned : (c : List ℕ) → 2 ≤ length c → front (swapped c 0 1) ≡ record { first = (front c).second; second = (front c).first }
+front_turned [] two = absurd (omega arith)
+front_turned (a ∷ []) two = absurd (omega arith)
+front_turned (a ∷ b ∷ c) two = refl
+
+pub turned_read : (c : List ℕ) (k : ℕ) → 2 ≤ k → get_or (swapped c 0 1) k 0 ≡ get_or c k 0
+turned_read [] k late = refl
+turned_read (a ∷ []) k late = let e = get_or-set_other (set (a ∷ []) 0 (get_or (a ∷ []) 1 0)) 1 k a 0 (λ q. absurd (omega arith)) in e ∙ get_or-set_other (a ∷ []) 0 k (get_or (a ∷ []) 1 0) 0 (λ q. absurd (omega arith))
+turned_read (a ∷ b ∷ c) zero late = absurd (omega arith)
+turned_read (a ∷ b ∷ c) (suc zero) late = absurd (omega arith)
+turned_read (a ∷ b ∷ c) (suc (suc k)) late = refl
+
+-- where the other literals of the copy are false, so are those of the clause
+pub none_next : (t : List Step) (c d : List ℕ) (f o : ℕ) → OtherOf (front c) f o → (front c).first ≢ (front c).second → true_on t (neg f) ≡ true → NoneFrom t c o (length c) → SameLits c d → NoNext t d o
+none_next t c d f o one differ fallen none same l h n = go c one differ none (same l ∙ h) where
+  go : (c : List ℕ) → OtherOf (front c) f o → (front c).first ≢ (front c).second → NoneFrom t c o (length c) → has c l ≡ true → true_on t (neg l) ≡ true
+  go [] one differ none h = absurd (differ refl)
+  go (a ∷ []) one differ none h = absurd (differ refl)
+  go (a ∷ b ∷ c) one differ none h =
+      let r = has_place (a ∷ b ∷ c) l 0 h in
+      at r.0 r.1 r.2
+    where
+      at : (k : ℕ) → k < length (a ∷ b ∷ c) → get_or (a ∷ b ∷ c) k 0 ≡ l → true_on t (neg l) ≡ true
+      at zero in' is = elim one [ inl e ↦ rw (sym is ∙ e.0) fallen | inr e ↦ absurd (n (sym is ∙ e.1)) ]
+      at (suc zero) in' is = elim one [ inl e ↦ absurd (n (sym is ∙ e.1)) | inr e ↦ rw (sym is ∙ e.0) fallen ]
+      at (suc (suc k)) in' is = rw is at (none (suc (suc k)) (omega arith) in' in' (λ q. n (sym is ∙ q)))
+
+-- a clause with two of its literals in front
+abbrev pub others : ℕ → ℕ → List ℕ → List ℕ
+others a b c = filter (λ x. not (eqb x a) && not (eqb x b)) c
+
+rest_has : (a b l : ℕ) (c : List ℕ) → has (others a b c) l ≡ true → has c l ≡ true
+rest_has a b l [] h = h
+rest_has a b l (x ∷ c) h = go (not (eqb x a) && not (eqb x b)) refl (λ k. rest_has a b l c k) h where
+  go : (p : Bool) → (not (eqb x a) && not (eqb x b)) ≡ p → (has (others a b c) l ≡ true → has c l ≡ true) → has (others a b (x ∷ c)) l ≡ true → has (x ∷ c) l ≡ true
+  go false e later h = or_right (eqb x l) (has c l) (later (rw e at h))
+  go true e later h =
+      elim (or_cases (eqb x l) (has (others a b c) l) (rw e at h)) [
+        | inl y ↦ or_left (eqb x l) (has c l) y
+        | inr y ↦ or_right (eqb x l) (has c l) (later y)
+      ]
+
+has_rest : (a b l : ℕ) (c : List ℕ) → l ≢ a → l ≢ b → has c l ≡ true → has (others a b c) l ≡ true
+has_rest a b l [] n m h = h
+has_rest a b l (x ∷ c) n m h =
+    elim (or_cases (eqb x l) (has c l) h) [
+      | inl y ↦
+          let e : x ≡ l = eqb-true x l y in
+          rw (ne_eqb x a (λ q. n (sym e ∙ q)), ne_eqb x b (λ q. m (sym e ∙ q))) (or_left (eqb x l) (has (others a b c) l) y)
+      | inr y ↦ go (not (eqb x a) && not (eqb x b)) refl (has_rest a b l c n m y)
+    ] where
+      go : (p : Bool) → (not (eqb x a) && not (eqb x b)) ≡ p → has (others a b c) l ≡ true → has (others a b (x ∷ c)) l ≡ true
+      go true e k = rw e (or_right (eqb x l) (has (others a b c) l) k)
+      go false e k = rw e k
+
+pub has_copied : (a b : ℕ) (c : List ℕ) (l : ℕ) → has c a ≡ true → has c b ≡ true → has (copied a b c) l ≡ has c l
+has_copied a b c l in-a in-b = same_tests (has (copied a b c) l) (has c l) there back where
+  there : has (copied a b c) l ≡ true → has c l ≡ true
+  there h =
+      elim (or_cases (eqb a l) (has (b ∷ others a b c) l) h) [
+        | inl e ↦ let q : a ≡ l = eqb-true a l e in rw (← q) in-a
+        | inr k ↦
+            elim (or_cases (eqb b l) (has (others a b c) l) k) [
+              | inl e ↦ let q : b ≡ l = eqb-true b l e in rw (← q) in-b
+              | inr m ↦ rest_has a b l c m
+            ]
+      ]
+
+  back : has c l ≡ true → has (copied a b c) l ≡ true
+  back h =
+      elim (cases_eq l a) [
+        | inl e ↦ or_left (eqb a l) (has (b ∷ others a b c) l) (eq-eqb a l (sym e))
+        | inr n ↦
+            or_right (eqb a l) (has (b ∷ others a b c) l)
+            (elim (cases_eq l b) [
+              | inl e ↦ or_left (eqb b l) (has (others a b c) l) (eq-eqb b l (sym e))
+              | inr m ↦ or_right (eqb b l) (has (others a b c) l) (has_rest a b l c n m h)
+            ])
+      ]
+
+pub first_read : (c : List ℕ) (x : ℕ) → 2 ≤ length c → x ≡ get_or c 0 x → x ≡ (front c).first
+first_read [] x two a = absurd (omega arith)
+first_read (p ∷ []) x two a = absurd (omega arith)
+first_read (p ∷ q ∷ c) x two a = a

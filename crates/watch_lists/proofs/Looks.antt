@@ -1,0 +1,174 @@
+-- Looks at the literals of a copy, and at a watch.
+use Rattle.std.proofs.Common.{◌≡◌, ◌≢◌, ℕ, suc, zero, ◌+◌, ◌<◌, ◌≤◌, Bool, true, false, not, ◌&&◌, eqb, List, [], ◌∷◌, ◌++◌, length, get_or, set, inl, inr, refl, sym, ap, ◌∙◌, subst, arith, Option}
+use Rattle.std.proofs.lemmas.Bool.{false≢true, cases_eq, eq-eqb, ne_eqb}
+use Rattle.std.proofs.lemmas.List.{get_or_default, map-set, length-map, get_or-set_same, get_or-set_other}
+use Rattle.sat_terms.specs.Literal.{has, neg}
+use Rattle.clause_store.specs.Stored.{Stored, slot, slot_lits}
+use Rattle.trail_state.specs.declared.trail.Step.{Step}
+use Rattle.trail_state.specs.Trail.{Trace, true_on}
+use Rattle.watch_lists.specs.declared.lists.Watch.{Watch}
+use Rattle.watch_lists.specs.declared.visits.Settled.{Settled}
+use Rattle.watch_lists.specs.declared.visits.Settled.TheVariants.{Stays, Moves as Moved, False}
+use Rattle.watch_lists.specs.Watching.{Pair, copy, front, pairs, pair, at, swapped, Blocks, SameLits, AllCopied, CopiesKeep}
+use Rattle.watch_lists.specs.Visiting.{OtherOf, IsNextAt, NoneFrom, MovesTo, ConcludedIs, Stayed, SettledIs}
+use Rattle.watch_lists.proofs.Fronts.{has_swapped, swapped_long, front_second, front_turned, turned_read, two_long, has_here, front_read}
+use Rattle.watch_lists.proofs.Watched.{true_in_from}
+
+-- a literal that may be watched, as the code reads it
+both_not : (x y : Bool) → (not x && not y) ≡ true → (x ≡ false) × (y ≡ false)
+both_not true y e = absurd (false≢true e)
+both_not false true e = absurd (false≢true e)
+both_not false false e = (refl, refl)
+
+one_so : (x : Bool) → (not x && true) ≡ false → x ≡ true
+one_so true e = refl
+one_so false e = absurd (false≢true (sym e))
+
+pub next_found : (t : List Step) (c : List ℕ) (other k lit : ℕ) (b : Bool) → 2 ≤ k → k < length c → lit ≡ get_or c k lit → b ≡ (not (true_on t (neg lit)) && not (eqb lit other)) → b ≡ true → IsNextAt t c other k
+next_found t c other k lit b late in' is said yes' =
+    let here : get_or c k 0 ≡ lit = sym (is ∙ get_or_default c k lit 0 in') in
+    let both = both_not (true_on t (neg lit)) (eqb lit other) (sym said ∙ yes') in
+    record {
+      late = late;
+      within = in';
+      apart = λ q. false≢true (sym both.1 ∙ eq-eqb lit other (sym here ∙ q));
+      open_yet = ap (λ z. true_on t (neg z)) here ∙ both.0;
+    }
+
+pub none_more : (t : List Step) (c : List ℕ) (other k lit : ℕ) (b : Bool) → k < length c → lit ≡ get_or c k lit → b ≡ (not (true_on t (neg lit)) && not (eqb lit other)) → b ≡ false → NoneFrom t c other k → NoneFrom t c other (k + 1)
+none_more t c other k lit b in' is said no' before j late lt within n =
+    elim (cases_eq j k) [
+      | inl e ↦
+          let here : get_or c j 0 ≡ lit = ap (λ z. get_or c z 0) e ∙ sym (is ∙ get_or_default c k lit 0 in') in
+          let off : eqb lit other ≡ false = ne_eqb lit other (λ q. n (here ∙ q)) in
+          let so : (not (true_on t (neg lit)) && true) ≡ false = ap (λ z. not (true_on t (neg lit)) && not z) (sym off) ∙ sym said ∙ no' in
+          ap (λ z. true_on t (neg z)) here ∙ one_so (true_on t (neg lit)) so
+      | inr m ↦ before j late (omega arith) within n
+    ]
+
+-- pairs and copies
+pub pair_front : (cs : List (List ℕ)) (id : ℕ) → pair (pairs cs) id ≡ front (copy cs id)
+pair_front [] id = refl
+pair_front (c ∷ cs) zero = refl
+pair_front (c ∷ cs) (suc id) = pair_front cs id
+
+pub pairs_long : (cs : List (List ℕ)) → length (pairs cs) ≡ length cs
+pairs_long cs = length-map cs front
+
+pub pairs_set : (cs : List (List ℕ)) (id : ℕ) (c : List ℕ) (p : Pair) → front c ≡ p → pairs (set cs id c) ≡ set (pairs cs) id p
+pairs_set cs id c p e = map-set front cs id c ∙ ap (set (pairs cs) id) e
+
+-- the list of the literal that is watched now
+pub moved_list : (ls : List (List Watch)) (code next : ℕ) (d new : List Watch) (w : Watch) → code ≡ next → next < length ls → new ≡ get_or ls code d ++ w ∷ [] → set ls code new ≡ set ls next (at ls next ++ w ∷ [])
+moved_list ls code next d new w e in' is =
+    ap (set ls code) (is ∙ ap (λ z. z ++ w ∷ []) (get_or_default ls code d [] (rw e in'))) ∙ ap (λ z. set ls z (at ls z ++ w ∷ [])) e
+
+-- a watch moves from the second literal in front, and from the first
+module _ (id f other k next code : ℕ) (ls ls' : List (List Watch)) (cs cs' : List (List ℕ)) (d new : List Watch)
+    (one : OtherOf (front (copy cs id)) f other) (differ : (front (copy cs id)).first ≢ (front (copy cs id)).second) (late : 2 ≤ k) (within : k < length (copy cs id))
+    (listed : get_or (copy cs id) k 0 < length ls) (next-is : next ≡ get_or (copy cs id) k next) (code-is : code ≡ next) (pushed : new ≡ get_or ls code d ++ record { id = id; blocker = other; binary = false } ∷ []) (lists-is : ls' ≡ set ls code new) where
+  abbrev pub c : List ℕ
+  c = copy cs id
+
+  there : next ≡ get_or c k 0
+  there = next-is ∙ get_or_default c k next 0 within
+
+  lists_moved : ls' ≡ set ls (get_or c k 0) (at ls (get_or c k 0) ++ record { id = id; blocker = other; binary = false } ∷ [])
+  lists_moved = lists-is ∙ moved_list ls code (get_or c k 0) d new (record { id = id; blocker = other; binary = false }) (code-is ∙ there) listed pushed
+
+  second_is : (front c).first ≢ f → (front c).first ≡ other
+  second_is n = elim one [ inl e ↦ absurd (n e.0) | inr e ↦ e.1 ]
+
+  first_is : (front c).first ≡ f → (front c).second ≡ other
+  first_is e = elim one [ inl q ↦ q.1 | inr q ↦ absurd (differ (e ∙ sym q.0)) ]
+
+  pub moves_second : (front c).first ≢ f → cs' ≡ set cs id (swapped c 1 k) → MovesTo id f other k ls ls' cs cs'
+  moves_second n e = record {
+    lists = lists_moved;
+    now = swapped c 1 k;
+    copies = e;
+    fronted = front_second c k late within ∙ ap (λ z. record { first = z; second = get_or c k 0 }) (second_is n);
+    same = λ l. has_swapped c 1 k l (let two = two_long c differ in omega arith) within;
+  }
+
+  pub moves_first : (front c).first ≡ f → (cs1 : List (List ℕ)) → cs1 ≡ set cs id (swapped c 0 1) → id < length cs → cs' ≡ set cs1 id (swapped (copy cs1 id) 1 k) → MovesTo id f other k ls ls' cs cs'
+  moves_first is cs1 one-is known two-is =
+      let two = two_long c differ in
+      let now : copy cs1 id ≡ swapped c 0 1 = ap (λ z. copy z id) one-is ∙ get_or-set_same cs id (swapped c 0 1) [] known in
+      let long : length (swapped c 0 1) ≡ length c = swapped_long c 0 1 in
+      record {
+        lists = lists_moved;
+        now = swapped (swapped c 0 1) 1 k;
+        copies = two-is ∙ ap (λ z. set cs1 id (swapped z 1 k)) now ∙ ap (λ z. set z id (swapped (swapped c 0 1) 1 k)) one-is ∙ twice cs id (swapped c 0 1) (swapped (swapped c 0 1) 1 k);
+        fronted =
+            front_second (swapped c 0 1) k late (omega arith)
+            ∙ ap (λ (z : Pair). record { first = z.first; second = get_or (swapped c 0 1) k 0 }) (front_turned c two)
+            ∙ ap (λ z. record { first = z; second = get_or (swapped c 0 1) k 0 }) (first_is is)
+            ∙ ap (λ z. record { first = other; second = z }) (turned_read c k late);
+        same = λ l. has_swapped (swapped c 0 1) 1 k l (omega arith) (omega arith) ∙ has_swapped c 0 1 l (omega arith) (omega arith);
+      }
+    where
+      twice : (xs : List (List ℕ)) (i : ℕ) (x y : List ℕ) → set (set xs i x) i y ≡ set xs i y
+      twice [] i x y = refl
+      twice (z ∷ xs) zero x y = refl
+      twice (z ∷ xs) (suc i) x y = ap (λ u. z ∷ u) (twice xs i x y)
+
+-- what became of a watch
+pub stays_met : (c : List ℕ) (f : ℕ) (w : Watch) (ls : List (List Watch)) (cs : List (List ℕ)) (t : List Step) → Blocks c f w → true_on t w.blocker ≡ true → Stayed c f w ls ls cs cs t
+stays_met c f w ls cs t blocks on = record { lists = refl; copies = refl; blocks = blocks; true_in = true_in_from t c w.blocker blocks.holds on }
+
+pub wide_blocks : (c : List ℕ) (f id other : ℕ) (b : Bool) → b ≡ false → has c other ≡ true → Blocks c f (record { id = id; blocker = other; binary = b })
+wide_blocks c f id other b off holds = record { holds = holds; both = λ on. absurd (false≢true (sym off ∙ on)) }
+
+pub concluded : (r : Settled) (id f other : ℕ) (b : Bool) (s : List (Option Stored)) (ls : List (List Watch)) (cs : List (List ℕ)) (t t' : Trace) → ConcludedIs r other (slot_lits (slot s id)) t'.steps → Blocks (slot_lits (slot s id)) f (record { id = id; blocker = other; binary = b })
+    → SettledIs r id b f s ls ls cs cs t t'
+concluded (Stays x) id f other b s ls cs t t' h blocks = subst (λ z. Stayed (slot_lits (slot s id)) f (record { id = id; blocker = z; binary = b }) ls ls cs cs t'.steps) (sym h.0) (stays_met (slot_lits (slot s id)) f (record { id = id; blocker = other; binary = b }) ls cs t'.steps blocks h.1)
+concluded Moved id f other b s ls cs t t' h blocks = absurd h
+concluded False id f other b s ls cs t t' h blocks = record { lists = refl; copies = refl; all_false = h }
+
+-- the copies after a move
+pub copied_moves : (s : List (Option Stored)) (cs cs' : List (List ℕ)) (id : ℕ) (now : List ℕ) → id < length cs → AllCopied s cs → (front (copy cs id)).first ≢ (front (copy cs id)).second → cs' ≡ set cs id now → ((l : ℕ) → has now l ≡ has (copy cs id) l) → AllCopied s cs'
+copied_moves s cs cs' id now known all differ e same k n l =
+    elim (cases_eq k id) [
+      | inl q ↦
+          let here : copy cs' k ≡ now = ap (copy cs') q ∙ ap (λ z. copy z id) e ∙ get_or-set_same cs id now [] known in
+          ap (λ z. has z l) here ∙ same l ∙ all id differ l ∙ ap (λ z. has (slot_lits (slot s z)) l) (sym q)
+      | inr m ↦
+          let there : copy cs' k ≡ copy cs k = ap (λ z. copy z k) e ∙ get_or-set_other cs id k now [] m in
+          ap (λ z. has z l) there ∙ all k (subst (λ z. (front z).first ≢ (front z).second) there n) l
+    ]
+
+-- the other literal, as the code reads the copy
+pub other_here : (c : List ℕ) (x y f o : ℕ) → (front c).first ≢ (front c).second → x ≡ get_or c 0 x → y ≡ get_or c 1 y → OtherOf (record { first = x; second = y }) f o → OtherOf (front c) f o
+other_here c x y f o differ a b h = subst (λ z. OtherOf z f o) (sym (front_read c x y (two_long c differ) a b)) h
+
+-- a literal of the copy is one of the clause
+pub held_at : (c d : List ℕ) (k : ℕ) → SameLits c d → k < length c → has d (get_or c k 0) ≡ true
+held_at c d k same in' = sym (same (get_or c k 0)) ∙ has_here c k (get_or c k 0) in' refl
+
+-- copies that keep
+pub keeps_same : (cs : List (List ℕ)) → CopiesKeep cs cs
+keeps_same cs = record { none = λ id e. e; differ = λ id n. n }
+
+pub keeps_then : (a b c : List (List ℕ)) → CopiesKeep a b → CopiesKeep b c → CopiesKeep a c
+keeps_then a b c f g = record { none = λ id e. g.none id (f.none id e); differ = λ id n. g.differ id (f.differ id n) }
+
+pub keeps_moved : (cs cs' : List (List ℕ)) (id other next : ℕ) (now : List ℕ) → id < length cs → (front (copy cs id)).first ≢ (front (copy cs id)).second → cs' ≡ set cs id now → front now ≡ record { first = other; second = next } → next ≢ other → CopiesKeep cs cs'
+keeps_moved cs cs' id other next now known differ e fronted apart = record {
+  none = λ k q.
+      elim (cases_eq k id) [
+        | inl y ↦ absurd (differ (let z : copy cs id ≡ [] = subst (λ x. copy cs x ≡ []) y q in ap (λ c. (front c).first) z ∙ sym (ap (λ c. (front c).second) z)))
+        | inr m ↦ there k m ∙ q
+      ];
+  differ = λ k n.
+      elim (cases_eq k id) [
+        | inl y ↦ subst (λ x. (front (copy cs' x)).first ≢ (front (copy cs' x)).second) (sym y) (subst (λ (p : Pair). p.first ≢ p.second) (sym (ap front here ∙ fronted)) (λ q. apart (sym q)))
+        | inr m ↦ subst (λ c. (front c).first ≢ (front c).second) (sym (there k m)) n
+      ];
+}
+  where
+    here : copy cs' id ≡ now
+    here = ap (λ z. copy z id) e ∙ get_or-set_same cs id now [] known
+
+    there : (k : ℕ) → k ≢ id → copy cs' k ≡ copy cs k
+    there k m = ap (λ z. copy z k) e ∙ get_or-set_other cs id k now [] m

@@ -1,0 +1,12 @@
+use Rattle.std.proofs.Common.{arith}
+use Rattle.watch_lists.proofs.Looks.{next_found, none_more}
+use Rattle.watch_lists.proofs.visits.next_at.Goals as goal
+
+pub returns-then-found : goal.returns-then-found
+returns-then-found c = next_found _ _ _ c.loop-k.k c.index-clause-k.result c.may_watch-found.result c.loop-k.invariant.late c.loop-k-test.true c.index-clause-k.is c.may_watch-found.ensures c.if-found.true
+
+pub loop-k-preserved : goal.loop-k-preserved
+loop-k-preserved c = record {
+  late = let a = c.loop-k.invariant.late in omega arith;
+  none = none_more _ _ _ c.loop-k.k c.index-clause-k.result c.may_watch-found.result c.loop-k-test.true c.index-clause-k.is c.may_watch-found.ensures c.if-found.false c.loop-k.invariant.none;
+}

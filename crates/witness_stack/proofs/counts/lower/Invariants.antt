@@ -1,0 +1,9 @@
+use Rattle.std.proofs.Common.{◌≡◌, ◌+◌, ℕ, length, take}
+use Rattle.witness_stack.specs.Counts.{count_at, count_sum, times}
+use Rattle.witness_stack.proofs.counts.lower.Given as goal
+
+abbrev pub invariant-loop-lit : goal.invariant-loop-lit
+invariant-loop-lit l = record {
+  counts : (x : ℕ) → count_at l.counts.items x + times (take l.lit-index l.lits) x ≡ count_at l.initial.counts.items x;
+  sum : count_sum l.counts.items + l.lit-index ≡ count_sum l.initial.counts.items;
+}

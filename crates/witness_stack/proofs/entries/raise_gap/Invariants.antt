@@ -1,0 +1,9 @@
+use Rattle.std.proofs.Common.{◌≡◌, length}
+use Rattle.witness_stack.specs.Gap.{shown}
+use Rattle.witness_stack.proofs.entries.raise_gap.Given as goal
+
+abbrev pub invariant-loop-at : goal.invariant-loop-at
+invariant-loop-at l = record {
+  same : shown l.at l.gap l.slots.items ≡ shown l.front l.gap l.fn.slots.items;
+  long : length l.slots.items ≡ length l.fn.slots.items;
+}
