@@ -3,7 +3,8 @@ use Rattle.std.proofs.Common.{◌≡◌, ◌∙◌, sym, ap, refl, subst, arith,
 use Rattle.std.specs.Prelude.{codes, ◌&&◌, not, nat_lt, if◌then◌else◌}
 use Rattle.std.specs.Str.{bytes_eq}
 use Rattle.std.proofs.lemmas.Bool.Decides.{nat_tests}
-use Rattle.icnf_reader.specs.Numbers.{max_var, max_number, place_of, plain_place, are_digits, number_from, IsAtMost}
+use Rattle.sat_terms.specs.Limits.{max_var, max_number}
+use Rattle.icnf_reader.specs.Numbers.{place_of, plain_place, are_digits, number_from, IsAtMost}
 use Rattle.icnf_reader.specs.Grammar.{inc_header}
 use Rattle.icnf_reader.specs.Outcomes.{doing, in_statement, opened, resting, closed, kind_place, vars_place, clauses_place, begins_query, allows_inc}
 use Rattle.icnf_reader.specs.ReadState.{IsDeclared, NoneOutside}

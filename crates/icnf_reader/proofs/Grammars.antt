@@ -3,10 +3,11 @@ use Rattle.std.proofs.Common.{◌≡◌, ◌∙◌, sym, ap, refl, subst, arith,
 use Rattle.std.specs.Prelude.{◌≢◌, ◌&&◌, map, nat_lt, nat_le, if◌then◌else◌}
 use Rattle.std.proofs.lemmas.Bool.{cases_lt}
 use Rattle.std.proofs.lemmas.List.{append-nil}
+use Rattle.sat_terms.specs.Limits.{max_literals}
 use Rattle.io_edge.specs.Lines.{line_text, max_line, max_input}
 use Rattle.icnf_reader.specs.Words.{line_words}
 use Rattle.icnf_reader.specs.Tokens.{Token, Word, Fault, CutOff, tokens}
-use Rattle.icnf_reader.specs.Grammar.{Statement, IsFew, IsBadWord, Ended, end_reason, max_literals}
+use Rattle.icnf_reader.specs.Grammar.{Statement, IsFew, IsBadWord, Ended, end_reason}
 use Rattle.icnf_reader.specs.Script.{Ending, Whole, Bad, Stopped, texts, word_tokens, InOrder, HasOneTooMany, IsFault, IsWhole, IsBad, IsStopped, Says, text_tokens, last_line_of}
 use Rattle.icnf_reader.specs.Outcomes.{Point, Outcome, doing, follow, reads, nothing, at_end, start, statements_of, header_of, query_at_end, script_of}
 use Rattle.icnf_reader.specs.Laws.{IsOutcome, TextIsSaid, TextIsGiven, CutIsSaid, CutIsGiven}

@@ -4,7 +4,8 @@ use Rattle.std.specs.Prelude.{◌⊎◌, ◌≢◌, ◌&&◌, codes, if◌then�
 use Rattle.std.specs.Str.{bytes_eq}
 use Rattle.std.proofs.lemmas.Slice.Eq.{bytes_eq-Decides}
 use Rattle.std.proofs.lemmas.Bool.{cases_Bool}
-use Rattle.icnf_reader.specs.Numbers.{max_var, max_number, place_of, plain_place}
+use Rattle.sat_terms.specs.Limits.{max_var, max_number}
+use Rattle.icnf_reader.specs.Numbers.{place_of, plain_place}
 use Rattle.icnf_reader.specs.Outcomes.{doing, in_statement, opened, resting, vars_place, clauses_place, begins_query, allows_inc}
 use Rattle.icnf_reader.specs.Grammar.{Statement, Clause, Query, AreLits, AreWordsOf, AreStatements, IsHeader, IsCnfHeader, IsIncHeader, inc_header, IsFit, IsPartial}
 use Rattle.icnf_reader.specs.declared.item.Heads.{Heads}

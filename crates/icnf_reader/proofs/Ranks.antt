@@ -2,9 +2,10 @@
 use Rattle.std.proofs.Common.{◌≡◌, ◌∙◌, sym, ap, refl, ℕ, ◌+◌, Bool, true, false, List, [], ◌∷◌, ◌++◌, Option, Some, None, inl, inr, ⊎_elim}
 use Rattle.std.specs.Prelude.{◌⊎◌, ◌≢◌, ◌&&◌, codes, if◌then◌else◌, nat_lt}
 use Rattle.std.specs.Str.{bytes_eq}
-use Rattle.icnf_reader.specs.Numbers.{max_var, max_number, place_of, plain_place}
+use Rattle.sat_terms.specs.Limits.{max_var, max_literals, max_number}
+use Rattle.icnf_reader.specs.Numbers.{place_of, plain_place}
 use Rattle.icnf_reader.specs.Tokens.{Token, Word, Fault, CutOff}
-use Rattle.icnf_reader.specs.Grammar.{max_literals, inc_header, reason, reason_inside, reason_plain, reason_behind_cnf, end_reason}
+use Rattle.icnf_reader.specs.Grammar.{inc_header, reason, reason_inside, reason_plain, reason_behind_cnf, end_reason}
 use Rattle.icnf_reader.specs.Script.{Bad, text_tokens, last_line_of}
 use Rattle.icnf_reader.specs.Outcomes.{Point, Outcome, doing, in_statement, opened, resting, closed, vars_place, clauses_place, begins_query, allows_inc, follow, reads, nothing, put_item, at_end, start, statements_of, items_of}
 use Rattle.icnf_reader.specs.Laws.{HeaderFirst, TextHasHeader}

@@ -2,8 +2,9 @@
 use Rattle.std.proofs.Common.{◌≡◌, ◌∙◌, sym, ap, refl, subst, arith, ⊎_elim, inl, inr, ℕ, ◌+◌, ◌<◌, ◌≤◌, false, List, [], ◌∷◌, ◌++◌, length, Some, append_assoc}
 use Rattle.std.specs.Prelude.{◌⊎◌, codes}
 use Rattle.std.proofs.lemmas.List.{append-nil}
+use Rattle.sat_terms.specs.Limits.{max_literals}
 use Rattle.icnf_reader.specs.Tokens.{Token}
-use Rattle.icnf_reader.specs.Grammar.{Statement, Clause, Query, AreLits, AreWordsOf, AreStatements, IsHeader, IsCnfHeader, IsIncHeader, inc_header, IsFit, lits_of_statement, literals_of, max_literals}
+use Rattle.icnf_reader.specs.Grammar.{Statement, Clause, Query, AreLits, AreWordsOf, AreStatements, IsHeader, IsCnfHeader, IsIncHeader, inc_header, IsFit, lits_of_statement, literals_of}
 use Rattle.icnf_reader.specs.Script.{Bad, texts, word_tokens}
 use Rattle.icnf_reader.specs.Outcomes.{Point, Outcome, doing, opened, resting, closed, begins_query, follow, reads, nothing, start, items_of}
 use Rattle.icnf_reader.specs.declared.item.Heads.{Heads}

@@ -3,7 +3,8 @@
 -- `p inccnf` alone.
 use Rattle.std.specs.Prelude.{◌≡◌, ◌≤◌, ◌⊎◌, ℕ, ◌+◌, if◌then◌else◌, List, [], ◌∷◌, ◌++◌, length, codes}
 use Rattle.std.specs.Str.{bytes_eq}
-use Rattle.icnf_reader.specs.Numbers.{max_var, max_number, place_of, plain_place}
+use Rattle.sat_terms.specs.Limits.{max_var, max_literals, max_number}
+use Rattle.icnf_reader.specs.Numbers.{place_of, plain_place}
 use Rattle.icnf_reader.specs.declared.numbers.LitWord.{LitWord}
 use Rattle.icnf_reader.specs.declared.numbers.LitWord.TheVariants.{Zero, Literal, Large}
 use Rattle.icnf_reader.specs.declared.numbers.PlainWord.{PlainWord}
@@ -80,10 +81,6 @@ lits_of_statement (Query ls) = ls
 abbrev pub literals_of : List Statement → ℕ
 literals_of [] = 0
 literals_of (s ∷ ss) = length (lits_of_statement s) + literals_of ss
-
--- the greatest number of literals of a text, 2^27
-abbrev pub max_literals : ℕ
-max_literals = 134217728
 
 -- a prefix of fit words whose statements have not too many literals
 pub record IsFew (heads : Heads) (ws : List (List ℕ)) : Type 0 where

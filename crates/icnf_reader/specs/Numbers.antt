@@ -1,19 +1,12 @@
 -- Number words: an optional - and decimal digits, as in DIMACS.
 use Rattle.std.specs.Prelude.{◌≤◌, ℕ, ◌+◌, ◌-◌, ◌*◌, ◌==◌, ◌&&◌, nat_lt, nat_le, Bool, true, false, not, if◌then◌else◌, List, [], ◌∷◌}
 use Rattle.std.specs.List.{list_all}
+use Rattle.sat_terms.specs.Limits.{max_var}
 use Rattle.sat_terms.specs.Literal.{pos_lit, neg_lit}
 use Rattle.icnf_reader.specs.declared.numbers.LitWord.{LitWord}
 use Rattle.icnf_reader.specs.declared.numbers.LitWord.TheVariants.{Zero, Literal, Large, Other}
 use Rattle.icnf_reader.specs.declared.numbers.PlainWord.{PlainWord}
 use Rattle.icnf_reader.specs.declared.numbers.PlainWord.TheVariants as plain
-
--- the greatest variable, 2^22 - 1
-abbrev pub max_var : ℕ
-max_var = 4194303
-
--- the greatest number of clauses that a header may declare, 2^62
-abbrev pub max_number : ℕ
-max_number = 4611686018427387904
 
 abbrev pub is_digit : ℕ → Bool
 is_digit b = nat_le 48 b && nat_le b 57

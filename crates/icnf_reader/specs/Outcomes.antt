@@ -2,8 +2,9 @@
 -- the grammar over the whole list of words.
 use Rattle.std.specs.Prelude.{ℕ, ◌+◌, ◌&&◌, Bool, true, false, nat_lt, if◌then◌else◌, List, [], ◌∷◌, ◌++◌, codes}
 use Rattle.std.specs.Str.{bytes_eq}
+use Rattle.sat_terms.specs.Limits.{max_var, max_literals, max_number}
 use Rattle.icnf_reader.specs.Tokens.{Token, Word, Fault, CutOff}
-use Rattle.icnf_reader.specs.Numbers.{max_var, max_number, place_of, plain_place}
+use Rattle.icnf_reader.specs.Numbers.{place_of, plain_place}
 use Rattle.icnf_reader.specs.declared.numbers.PlainWord.{PlainWord}
 use Rattle.icnf_reader.specs.declared.numbers.PlainWord.TheVariants as plain
 use Rattle.icnf_reader.specs.declared.item.Heads.{Heads}
@@ -14,7 +15,7 @@ use Rattle.icnf_reader.specs.declared.item.Item.TheVariants as item
 use Rattle.icnf_reader.specs.declared.item.Header.{Header}
 use Rattle.icnf_reader.specs.declared.item.HeadKind.TheVariants.{Cnf, Knf, Inc}
 use Rattle.icnf_reader.specs.Script.{Ending, Whole, Bad, Stopped, text_tokens, last_line_of}
-use Rattle.icnf_reader.specs.Grammar.{Statement, Clause, Query, max_literals, inc_header, last_query}
+use Rattle.icnf_reader.specs.Grammar.{Statement, Clause, Query, inc_header, last_query}
 use Rattle.icnf_reader.specs.declared.item.Why.TheVariants.{HeaderExpected, UnexpectedWord, OutOfRange, NotClosed, TooManyLiterals}
 use Rattle.icnf_reader.specs.declared.reader.Mode.{Mode}
 use Rattle.icnf_reader.specs.declared.numbers.LitWord.{LitWord}

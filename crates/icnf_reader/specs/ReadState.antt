@@ -1,13 +1,12 @@
 -- What a reader of items has done.
 use Rattle.std.specs.Prelude.{◌≡◌, ◌≤◌, ℕ, ◌-◌, Bool, true, false, List, [], ◌∷◌, ◌++◌, length, Result, Ok, Err, IfSome, Some, None}
 use Rattle.std.specs.declared.option.Option.{Option}
+use Rattle.sat_terms.specs.Limits.{max_var, max_literals}
 use Rattle.io_edge.specs.Told.{WhereTold}
 use Rattle.io_edge.specs.Lines.{NoLf}
 use Rattle.io_edge.specs.Reading.{rest_of}
 use Rattle.icnf_reader.specs.Tokens.{Token, CutOff}
 use Rattle.icnf_reader.specs.WordState.{WordState, words_at_start, tokens_left, left_over, last_line, TakesLines}
-use Rattle.icnf_reader.specs.Grammar.{max_literals}
-use Rattle.icnf_reader.specs.Numbers.{max_var}
 use Rattle.icnf_reader.specs.Script.{Whole, Bad, Stopped}
 use Rattle.icnf_reader.specs.Outcomes.{Point, Outcome, reads, doing, follow, nothing, put_item, start}
 use Rattle.icnf_reader.specs.declared.reader.Mode.{Mode}

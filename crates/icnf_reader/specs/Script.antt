@@ -1,8 +1,9 @@
 -- What a text says: the declared number of variables, a script, which is a list of statements, and how it ends.
 use Rattle.std.specs.Prelude.{◌≡◌, ◌≤◌, ◌⊎◌, ℕ, max, List, [], ◌∷◌, ◌++◌, length, map}
+use Rattle.sat_terms.specs.Limits.{max_literals}
 use Rattle.io_edge.specs.Lines.{lines}
 use Rattle.icnf_reader.specs.Tokens.{Token, Word, Fault, CutOff, tokens}
-use Rattle.icnf_reader.specs.Grammar.{Statement, IsFit, IsPartial, IsFew, IsBadWord, Ended, end_reason, literals_of, max_literals, last_query}
+use Rattle.icnf_reader.specs.Grammar.{Statement, IsFit, IsPartial, IsFew, IsBadWord, Ended, end_reason, literals_of, last_query}
 use Rattle.icnf_reader.specs.declared.item.Heads.{Heads}
 use Rattle.icnf_reader.specs.declared.item.Header.{Header}
 use Rattle.icnf_reader.specs.declared.item.Why.{Why}

@@ -10,8 +10,9 @@
 ghost use Rattle.std.specs.Prelude.{◌≡◌, ◌+◌, ◌<◌, ◌≤◌, ◌^◌, ◌⊎◌, if◌then◌else◌, min, pos, ℕ, List, Bool, true, false, [], length, IfOk, IsErrOf};
 ghost use Rattle.std.specs.Str.{bytes_eq};
 ghost use Rattle.std.specs.Io.KnownBytes.{IsAtEnd};
+ghost use Rattle.sat_terms.specs.Limits.{max_var, max_number};
 ghost use Rattle.io_edge.specs.Causes.{Rose};
-ghost use Rattle.icnf_reader.specs.Numbers.{max_var, max_number, plain_place};
+ghost use Rattle.icnf_reader.specs.Numbers.{plain_place};
 ghost use Rattle.icnf_reader.specs.Outcomes.{doing, kind_place, allows_inc, vars_place, clauses_place, begins_query, in_statement, opened, resting, closed};
 ghost use Rattle.icnf_reader.specs.ReadState.{Takes, ReadAnswers, ReadsOver, read_is_last, IsEndItem, IsHeaderItem, HasVars, HaveVars, GivesHeader, is_before_header, is_item_fault, at_start, given, lits_in, lits_of, end_answer};
 ghost use Rattle.icnf_reader.specs.WordState.{word_fuel};

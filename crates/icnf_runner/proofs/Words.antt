@@ -15,7 +15,8 @@ use Rattle.icnf_runner.specs.declared.options.Choice.TheVariants as choice
 use Rattle.icnf_runner.specs.declared.options.Name.{Name}
 use Rattle.icnf_runner.specs.declared.options.Name.TheVariants as names
 use Rattle.icnf_runner.specs.declared.options.Found.{Found}
-use Rattle.icnf_runner.specs.Options.{most, nothing_stated, Item, Conflicts, Callbacks, Steps, Check, name_of, AreNumbered, AreWordsOf, AreItems, NoneNamed, NamesOnce, with_item, stated_over, Accepts, IsInRange}
+use Rattle.sat_terms.specs.Limits.{max_number}
+use Rattle.icnf_runner.specs.Options.{nothing_stated, Item, Conflicts, Callbacks, Steps, Check, name_of, AreNumbered, AreWordsOf, AreItems, NoneNamed, NamesOnce, with_item, stated_over, Accepts, IsInRange}
 use Rattle.icnf_runner.specs.Items.{name_text, rest_after, numbered, behind_equals, first_of, one_word, two_words, add_conflicts, add_callbacks, add_steps, add_check, add_choice, and_then, chosen, parse, nothing_found, options_by, IsFirst, BeginsNone}
 use Rattle.icnf_runner.specs.Runs.{AreAccepted}
 
@@ -62,9 +63,9 @@ behind_is name w None c is e = absurd (cc)
 behind_is name w (Some []) c is e = absurd (cc)
 behind_is name w (Some (b ∷ digits)) c is e = on (b == 61) refl e
   where
-    on : (x : Bool) → (b == 61) ≡ x → (if x then numbered name (plain_place most digits) else None) ≡ Some c → AreWordsOf (item_of c) (w ∷ [])
+    on : (x : Bool) → (b == 61) ≡ x → (if x then numbered name (plain_place max_number digits) else None) ≡ Some c → AreWordsOf (item_of c) (w ∷ [])
     on true eq f =
-        let n = numbered_is name (plain_place most digits) c f in
+        let n = numbered_is name (plain_place max_number digits) c f in
         let same : b ≡ 61 = eqb-true b 61 eq in
         let P : Choice → Type 0 = λ x. AreWordsOf (item_of x) (w ∷ []) in
         subst P (sym n.2) (words_of_number name n.0 (w ∷ []) (record {
@@ -97,25 +98,25 @@ one_is w c e = check (bytes_eq w (codes "--check")) refl e
         subst P same (ap (λ l. l ∷ []) ((bytes_eq-Decides w (codes "--check")).0 is))
     check false is f = first (behind_equals names.Conflicts (rest_after (codes "--conflicts") w)) refl f
 
-two_number : (name : Name) (w v : List ℕ) (c : Choice) → bytes_eq w (name_text name) ≡ true → numbered name (plain_place most v) ≡ Some c → AreWordsOf (item_of c) (w ∷ v ∷ [])
+two_number : (name : Name) (w v : List ℕ) (c : Choice) → bytes_eq w (name_text name) ≡ true → numbered name (plain_place max_number v) ≡ Some c → AreWordsOf (item_of c) (w ∷ v ∷ [])
 two_number name w v c is f =
-    let n = numbered_is name (plain_place most v) c f in
+    let n = numbered_is name (plain_place max_number v) c f in
     let P : Choice → Type 0 = λ x. AreWordsOf (item_of x) (w ∷ v ∷ []) in
     subst P (sym n.2) (words_of_number name n.0 (w ∷ v ∷ []) (record { digits = v; number = n.1; are = inl (ap (λ l. l ∷ v ∷ []) ((bytes_eq-Decides w (name_text name)).0 is)) }))
 
 two_is : (w v : List ℕ) (c : Choice) → two_words w v ≡ Some c → AreWordsOf (item_of c) (w ∷ v ∷ [])
 two_is w v c e = first (bytes_eq w (codes "--conflicts")) refl e
   where
-    third : (b : Bool) → bytes_eq w (codes "--steps") ≡ b → (if b then numbered names.Steps (plain_place most v) else None) ≡ Some c → AreWordsOf (item_of c) (w ∷ v ∷ [])
+    third : (b : Bool) → bytes_eq w (codes "--steps") ≡ b → (if b then numbered names.Steps (plain_place max_number v) else None) ≡ Some c → AreWordsOf (item_of c) (w ∷ v ∷ [])
     third true is f = two_number names.Steps w v c is f
     third false is f = absurd (cc)
 
-    second : (b : Bool) → bytes_eq w (codes "--callbacks") ≡ b → (if b then numbered names.Callbacks (plain_place most v) else if bytes_eq w (codes "--steps") then numbered names.Steps (plain_place most v) else None) ≡ Some c → AreWordsOf (item_of c) (w ∷ v ∷ [])
+    second : (b : Bool) → bytes_eq w (codes "--callbacks") ≡ b → (if b then numbered names.Callbacks (plain_place max_number v) else if bytes_eq w (codes "--steps") then numbered names.Steps (plain_place max_number v) else None) ≡ Some c → AreWordsOf (item_of c) (w ∷ v ∷ [])
     second true is f = two_number names.Callbacks w v c is f
     second false is f = third (bytes_eq w (codes "--steps")) refl f
 
     first : (b : Bool) → bytes_eq w (codes "--conflicts") ≡ b
-        → (if b then numbered names.Conflicts (plain_place most v) else if bytes_eq w (codes "--callbacks") then numbered names.Callbacks (plain_place most v) else if bytes_eq w (codes "--steps") then numbered names.Steps (plain_place most v) else None) ≡ Some c → AreWordsOf (item_of c) (w ∷ v ∷ [])
+        → (if b then numbered names.Conflicts (plain_place max_number v) else if bytes_eq w (codes "--callbacks") then numbered names.Callbacks (plain_place max_number v) else if bytes_eq w (codes "--steps") then numbered names.Steps (plain_place max_number v) else None) ≡ Some c → AreWordsOf (item_of c) (w ∷ v ∷ [])
     first true is f = two_number names.Conflicts w v c is f
     first false is f = second (bytes_eq w (codes "--callbacks")) refl f
 
@@ -163,23 +164,23 @@ no_digits names.Conflicts = refl
 no_digits names.Callbacks = refl
 no_digits names.Steps = refl
 
-one_number : (name : Name) (digits : List ℕ) → one_word (name_text name ++ 61 ∷ digits) ≡ numbered name (plain_place most digits) ⊎ (one_word (name_text name ++ 61 ∷ digits) ≡ first_of (numbered name (plain_place most digits)) None)
-one_number names.Conflicts digits = inr (either (numbered names.Conflicts (plain_place most digits)))
+one_number : (name : Name) (digits : List ℕ) → one_word (name_text name ++ 61 ∷ digits) ≡ numbered name (plain_place max_number digits) ⊎ (one_word (name_text name ++ 61 ∷ digits) ≡ first_of (numbered name (plain_place max_number digits)) None)
+one_number names.Conflicts digits = inr (either (numbered names.Conflicts (plain_place max_number digits)))
   where
     either : (o : Option Choice) → first_of o None ≡ first_of o None
     either o = refl
 one_number names.Callbacks digits = inr refl
 one_number names.Steps digits = inl refl
 
-two_read : (name : Name) (v : List ℕ) → two_words (name_text name) v ≡ numbered name (plain_place most v)
+two_read : (name : Name) (v : List ℕ) → two_words (name_text name) v ≡ numbered name (plain_place max_number v)
 two_read names.Conflicts v = refl
 two_read names.Callbacks v = refl
 two_read names.Steps v = refl
 
-one_read : (name : Name) (digits : List ℕ) (n : ℕ) → plain_place most digits ≡ plain.Value n → one_word (name_text name ++ 61 ∷ digits) ≡ Some (choice.Number name n)
+one_read : (name : Name) (digits : List ℕ) (n : ℕ) → plain_place max_number digits ≡ plain.Value n → one_word (name_text name ++ 61 ∷ digits) ≡ Some (choice.Number name n)
 one_read name digits n e = ⊎_elim
-    (λ (is : one_word (name_text name ++ 61 ∷ digits) ≡ numbered name (plain_place most digits)). is ∙ ap (numbered name) e)
-    (λ (is : one_word (name_text name ++ 61 ∷ digits) ≡ first_of (numbered name (plain_place most digits)) None). is ∙ ap (λ x. first_of (numbered name x) None) e)
+    (λ (is : one_word (name_text name ++ 61 ∷ digits) ≡ numbered name (plain_place max_number digits)). is ∙ ap (numbered name) e)
+    (λ (is : one_word (name_text name ++ 61 ∷ digits) ≡ first_of (numbered name (plain_place max_number digits)) None). is ∙ ap (λ x. first_of (numbered name x) None) e)
     (one_number name digits)
 
 -- what follows the words of an item
@@ -194,7 +195,7 @@ follows_one c w [] e f = ap (λ o. chosen o None f (λ g. Some g) (λ g. None)) 
     same (Some g) = refl
 follows_one c w (v ∷ rest) e f = ap (λ o. chosen o (two_words w v) f (parse (v ∷ rest)) (parse rest)) e
 
-follows_two : (name : Name) (v : List ℕ) (n : ℕ) (rest : List (List ℕ)) → plain_place most v ≡ plain.Value n → Follows (choice.Number name n) (name_text name ∷ v ∷ []) rest
+follows_two : (name : Name) (v : List ℕ) (n : ℕ) (rest : List (List ℕ)) → plain_place max_number v ≡ plain.Value n → Follows (choice.Number name n) (name_text name ∷ v ∷ []) rest
 follows_two name v n rest e f =
     ap (λ o. chosen o (two_words (name_text name) v) f (parse (v ∷ rest)) (parse rest)) (no_digits name)
     ∙ ap (λ o. chosen None o f (parse (v ∷ rest)) (parse rest)) (two_read name v ∙ ap (numbered name) e)
@@ -413,7 +414,7 @@ unread_refused ws e a =
     let x : None ≡ Some t.0 = sym e ∙ items_parse items ws nothing_found t.0 a.1.are t.1 in cc
 
 -- a number that is told is in range
-number_most : (n : ℕ) (digits : List ℕ) → plain_place most digits ≡ plain.Value n → n ≤ 2 ^ 62
+number_most : (n : ℕ) (digits : List ℕ) → plain_place max_number digits ≡ plain.Value n → n ≤ 2 ^ 62
 number_most n digits e = let P : PlainWord → Type 0 = λ x. IsAtMost most x in let h = subst P e (plain_most most digits) in omega (arith, h)
 
 -- the numbers of items are in range

@@ -10,7 +10,7 @@ use Rattle.icnf_runner.specs.declared.options.Choice.TheVariants as choice
 use Rattle.icnf_runner.specs.declared.options.Name.{Name}
 use Rattle.icnf_runner.specs.declared.options.Name.TheVariants as names
 use Rattle.icnf_runner.specs.declared.options.Found.{Found}
-use Rattle.icnf_runner.specs.Options.{most}
+use Rattle.sat_terms.specs.Limits.{max_number}
 
 -- the text of a name that has a number
 abbrev pub name_text : Name → List ℕ
@@ -33,7 +33,7 @@ numbered name plain.Other = None
 abbrev pub behind_equals : Name → Option (List ℕ) → Option Choice
 behind_equals name None = None
 behind_equals name (Some []) = None
-behind_equals name (Some (b ∷ digits)) = if b == 61 then numbered name (plain_place most digits) else None
+behind_equals name (Some (b ∷ digits)) = if b == 61 then numbered name (plain_place max_number digits) else None
 
 abbrev pub first_of : Option Choice → Option Choice → Option Choice
 first_of (Some c) other = Some c
@@ -46,9 +46,9 @@ one_word w = if bytes_eq w (codes "--check") then Some choice.Check
 
 -- an item of two words
 abbrev pub two_words : List ℕ → List ℕ → Option Choice
-two_words w v = if bytes_eq w (codes "--conflicts") then numbered names.Conflicts (plain_place most v)
-    else if bytes_eq w (codes "--callbacks") then numbered names.Callbacks (plain_place most v)
-    else if bytes_eq w (codes "--steps") then numbered names.Steps (plain_place most v) else None
+two_words w v = if bytes_eq w (codes "--conflicts") then numbered names.Conflicts (plain_place max_number v)
+    else if bytes_eq w (codes "--callbacks") then numbered names.Callbacks (plain_place max_number v)
+    else if bytes_eq w (codes "--steps") then numbered names.Steps (plain_place max_number v) else None
 
 -- one more number, where none was met before
 abbrev pub add_conflicts : Found → ℕ → Option ℕ → Option Found

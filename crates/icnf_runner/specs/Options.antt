@@ -1,16 +1,13 @@
 -- The options of the command line: a list of words is accepted if it is a sequence of items, each name at most once, in any order.
 use Rattle.std.specs.Prelude.{◌≡◌, ◌≤◌, ◌⊎◌, ◌≢◌, ℕ, ◌^◌, Bool, true, false, List, [], ◌∷◌, ◌++◌, codes}
+use Rattle.sat_terms.specs.Limits.{max_number}
 use Rattle.icnf_reader.specs.Numbers.{plain_place}
 use Rattle.icnf_reader.specs.declared.numbers.PlainWord.TheVariants as plain
 use Rattle.icnf_runner.specs.declared.options.Options.{Options}
 
--- the greatest number of an item, 2^62; a budget of 2^62 is none
-abbrev pub most : ℕ
-most = 4611686018427387904
-
 -- where nothing is stated: no budget, and a million steps
 abbrev pub nothing_stated : Options
-nothing_stated = record { conflicts = most; callbacks = most; steps = 1000000; check = false }
+nothing_stated = record { conflicts = max_number; callbacks = max_number; steps = 1000000; check = false }
 
 -- the items
 pub data Item : Type 0 where
@@ -29,7 +26,7 @@ name_of Check = codes "--check"
 -- an item with a number is two words, or one word with = between: the number is one or more decimal digits, and at most 2^62
 pub record AreNumbered (name : List ℕ) (n : ℕ) (ws : List (List ℕ)) : Type 0 where
   pub digits : List ℕ
-  pub number : plain_place most digits ≡ plain.Value n
+  pub number : plain_place max_number digits ≡ plain.Value n
   pub are : (ws ≡ name ∷ digits ∷ []) ⊎ (ws ≡ (name ++ 61 ∷ digits) ∷ [])
 
 -- the words of an item

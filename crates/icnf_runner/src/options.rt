@@ -6,7 +6,8 @@
 //! the same values, which is tested; where it did not, the answer would be want of memory, its one reason to refuse them.
 ghost use Rattle.std.specs.Prelude.{◌≡◌, ◌≤◌, ◌<◌, ◌+◌, true, List, Option, Some, None, option_map, map, string_bytes, IfOk, OnErr, IfSome, IfNone, length, drop};
 ghost use Rattle.icnf_reader.specs.Numbers.{plain_place};
-ghost use Rattle.icnf_runner.specs.Options.{Accepts, IsInRange, most};
+ghost use Rattle.sat_terms.specs.Limits.{max_number};
+ghost use Rattle.icnf_runner.specs.Options.{Accepts, IsInRange};
 ghost use Rattle.icnf_runner.specs.Items.{name_text, rest_after, numbered, behind_equals, first_of, one_word, two_words, add_choice, parse, nothing_found, options_by, IsFirst, BeginsNone};
 ghost use Rattle.icnf_runner.specs.Runs.{AreAccepted};
 ghost use Rattle.icnf_runner.specs.declared.options.Choice.TheVariants as choices;
@@ -88,7 +89,7 @@ fn behind<'a>(name: &[u8], word: &'a [u8]) -> Option<&'a [u8]>
 
 // The item of a name and the text of its number.
 fn numbered_choice(name: Name, text: &[u8]) -> Option<Choice>
-    ensures { result ≡ numbered name (plain_place most text.now) }
+    ensures { result ≡ numbered name (plain_place max_number text.now) }
 {
     match plain_word(text, MOST) {
         PlainWord::Value(number) => Some(Choice::Number(name, number)),

@@ -4,7 +4,8 @@ use Rattle.sat_terms.specs.Literal.{neg}
 use Rattle.sat_terms.specs.Truth.{Assignment, lit_true, clause_true}
 use Rattle.sat_terms.proofs.Truths.{lit_true-neg, clause_true-from, clause_true-some}
 use Rattle.normal_form.specs.Forms.{IsTautology, SameLits}
-use Rattle.normal_form.proofs.Members.{has_at, Contains-from_has}
+use Rattle.sat_terms.proofs.Members.{has_item}
+use Rattle.normal_form.proofs.Members.{Contains-from_has}
 
 -- clauses of the same literals are true under the same assignments
 pub true_same : (f : Assignment) (c d : List ℕ) → SameLits c d → clause_true f c ≡ true → clause_true f d ≡ true
@@ -27,5 +28,5 @@ tautology_true f c t =
 -- what holds of each literal of a clause holds of each of its normal form
 pub all_same : (P : ℕ → Type 0) (c d : List ℕ) → SameLits c d → All P d → All P c
 all_same P c d same h k e lt =
-    let there = Contains-from_has d (get_or c k e) (sym (same (get_or c k e)) ∙ has_at c k e lt) in
+    let there = Contains-from_has d (get_or c k e) (sym (same (get_or c k e)) ∙ has_item c k e lt) in
     subst P there.2 (h there.0 (get_or c k e) there.1)

@@ -7,11 +7,6 @@ use Rattle.std.proofs.lemmas.List.Kept.{Contains-dedup_nat, Contains-from_dedup}
 use Rattle.sat_terms.specs.Literal.{has}
 use Rattle.sat_terms.proofs.Members.{same_tests}
 
-pub has_at : (c : List ℕ) (i d : ℕ) → i < length c → has c (get_or c i d) ≡ true
-has_at [] i d in' = absurd (omega arith)
-has_at (y ∷ c) zero d in' = or_left (eqb y y) (has c y) (eq-eqb y y refl)
-has_at (y ∷ c) (suc i) d in' = or_right (eqb y (get_or c i d)) (has c (get_or c i d)) (has_at c i d (omega arith))
-
 pub Contains-from_has : (c : List ℕ) (l : ℕ) → has c l ≡ true → Contains c l
 Contains-from_has [] l h = absurd (false≢true h)
 Contains-from_has (x ∷ c) l h =

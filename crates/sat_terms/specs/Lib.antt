@@ -3,3 +3,4 @@ pub mod Truth
 pub mod Cardinality
 pub mod Normal
 pub mod Answer
+pub mod Limits

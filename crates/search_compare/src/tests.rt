@@ -183,7 +183,7 @@ fn compare(alloc: Global, seed: u64, counts: &mut Counts) -> Result<(), Fail> {
 const HOLES: u32 = 7;
 
 // How many queries follow.
-const QUERIES: u32 = 12;
+const QUERIES: u32 = 40;
 
 // The literal that a pigeon sits in a hole.
 fn sits(pigeon: u32, hole: u32) -> Result<Lit, Fail> {
@@ -219,7 +219,20 @@ fn has_hole(alloc: Global, pigeon: u32) -> Result<Lits, Fail> {
     Ok(clause)
 }
 
-// Gives the clauses that a pigeon has a hole, and that it shares it with no pigeon before it.
+// Gives the clause that two things do not hold at once.
+fn give_pair(
+    alloc: Global,
+    solver: &mut Solver,
+    clauses: &mut Vec<Lits>,
+    first: Lit,
+    second: Lit,
+) -> Result<(), Fail> {
+    let pair = Lits::from_slice(alloc, &[first.neg(), second.neg()])?;
+    give(solver, clauses, pair)
+}
+
+// Gives the clauses that a pigeon has a hole, that it has no two, and that it shares its hole with
+// no pigeon before it.
 fn give_pigeon(
     alloc: Global,
     solver: &mut Solver,
@@ -227,10 +240,13 @@ fn give_pigeon(
     pigeon: u32,
 ) -> Result<(), Fail> {
     give(solver, clauses, has_hole(alloc, pigeon)?)?;
-    for other in 0..pigeon {
-        for hole in 0..HOLES {
-            let pair = [sits(pigeon, hole)?.neg(), sits(other, hole)?.neg()];
-            give(solver, clauses, Lits::from_slice(alloc, &pair)?)?;
+    for hole in 0..HOLES {
+        let here = sits(pigeon, hole)?;
+        for other in 0..hole {
+            give_pair(alloc, solver, clauses, here, sits(pigeon, other)?)?;
+        }
+        for other in 0..pigeon {
+            give_pair(alloc, solver, clauses, here, sits(other, hole)?)?;
         }
     }
     Ok(())
@@ -276,7 +292,7 @@ fn goes_on_after_many_conflicts(rt: HostRuntime) -> Result<(), Fail> {
     };
     ask_more(alloc, &mut solver, &clauses, &mut counts)?;
     assert_eq!(rt; counts.unfit, 0);
-    assert!(rt; counts.models > 5 && counts.cores > 5);
+    assert_eq!(rt; (counts.models, counts.cores, counts.unknown), (0, 0, 0));
     Ok(())
 }
 

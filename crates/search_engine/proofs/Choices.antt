@@ -24,7 +24,7 @@ use Rattle.search_engine.proofs.Orders.{orderly_longer}
 use Rattle.search_engine.specs.Turns.{AllOn, KeepsTrue, AssumesFirst, IsBetweenTurns, RankRises, Next, Passed}
 use Rattle.search_engine.proofs.Keeping.{learns_same, keeps_ready}
 use Rattle.search_engine.proofs.Measures.{left_falls}
-use Rattle.watch_lists.proofs.Resting.{true_longer}
+use Rattle.trail_state.proofs.Longer.{true_longer}
 use Rattle.search_engine.proofs.Values.{true_in_front}
 
 -- what holds of the front of a list and of the next member

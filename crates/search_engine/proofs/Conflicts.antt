@@ -10,7 +10,7 @@ use Rattle.sat_terms.proofs.Literals.{var_of-neg}
 use Rattle.sat_terms.specs.Truth.{Implies}
 use Rattle.clause_store.specs.Stored.{Stored, slot, slot_lits, is_firm, StoreTrue, Fills}
 use Rattle.clause_store.proofs.Slots.{StoreTrue-filled}
-use Rattle.normal_form.proofs.Members.{has_at}
+use Rattle.sat_terms.proofs.Members.{has_item}
 use Rattle.trail_state.specs.declared.trail.Step.{Step}
 use Rattle.trail_state.specs.declared.reason.Reason.TheVariants.{Decision, Clause}
 use Rattle.trail_state.specs.Trail.{Trace, step, true_on, value_on, IsTrail, IsBack, HasRoom}
@@ -46,13 +46,13 @@ false_named t l room off =
 
 pub false_watched : (t : Trace) (c : List ℕ) (n : ℕ) → HasRoom t → FalseOn t.steps c → t.declared ≤ n → Within n c
 false_watched t c n room off le k d in' =
-    let named = false_named t (get_or c k d) room (off (get_or c k d) (has_at c k d in')) in
+    let named = false_named t (get_or c k d) room (off (get_or c k d) (has_item c k d in')) in
     let low = named.0 in
     let high = named.1 in
     (omega arith, omega arith)
 
 pub false_within : (t : Trace) (c : List ℕ) → HasRoom t → FalseOn t.steps c → Within t.declared c
-false_within t c room off k d in' = false_named t (get_or c k d) room (off (get_or c k d) (has_at c k d in'))
+false_within t c room off k d in' = false_named t (get_or c k d) room (off (get_or c k d) (has_item c k d in'))
 
 -- a redundant clause more in the store
 module _ (s s' : List (Option Stored)) (id : ℕ) (c : Stored) (fills : Fills s s' id c) where

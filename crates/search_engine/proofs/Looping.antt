@@ -12,7 +12,7 @@ use Rattle.trail_state.specs.Trail.{Trace, step, no_step, IsTrail}
 use Rattle.trail_state.proofs.Levels.{decided, below_top}
 use Rattle.rooted_trails.specs.Rooted.{RootedBy, RootedAt, Rooted}
 use Rattle.watch_lists.specs.Propagation.{Watching, Follows, Grown}
-use Rattle.watch_lists.proofs.Growing.{reason_kept}
+use Rattle.trail_state.proofs.Longer.{reason_longer}
 use Rattle.search_engine.proofs.Orders.{orderly_longer}
 use Rattle.search_policy.specs.Plan.{restarts_left}
 use Rattle.search_engine.specs.declared.state.Core.{Core}
@@ -27,7 +27,7 @@ use Rattle.search_engine.specs.Turns.{AssumesFirst, IsBetweenTurns, Passed, meas
 use Rattle.search_engine.proofs.Choices.{passed_kept}
 use Rattle.search_engine.proofs.Keeping.{learns_same, keeps_ready}
 use Rattle.search_engine.proofs.Measures.{left_grown}
-use Rattle.watch_lists.proofs.Resting.{true_longer}
+use Rattle.trail_state.proofs.Longer.{true_longer}
 
 -- what holds of the value of an `Ok`
 pub ok_more : {A E : Type 0} (r : Result A E) (P Q : A → Type 0) → ((x : A) → P x → Q x) → IfOk r P → IfOk r Q
@@ -46,7 +46,7 @@ on_ok_more (Err e) P Q more h = h
 -- a step keeps its reason on a longer trail
 rooted_by_longer : (s : List (Option Stored)) (t more : List Step) (i : ℕ) (r : Reason) → i < length t → RootedBy s t i r → RootedBy s (t ++ more) i r
 rooted_by_longer s t more i Decision in' h = tt
-rooted_by_longer s t more i (Clause id) in' h = (h.0, reason_kept (slot_lits (slot s id)) t more i in' h.1)
+rooted_by_longer s t more i (Clause id) in' h = (h.0, reason_longer (slot_lits (slot s id)) t more i in' h.1)
 rooted_by_longer s t more i Theory in' h = absurd h
 
 rooted_at_longer : (s : List (Option Stored)) (t more : List Step) (i : ℕ) → i < length t → RootedAt s t i → RootedAt s (t ++ more) i

@@ -138,7 +138,7 @@ fn answers_queries(rt: HostRuntime) -> Result<(), Fail> {
         Row::Look(-1, "Err(NotSat) Ok(true)"),
         Row::Look(3, "Err(NotSat) Ok(false)"),
         Row::Give(&[-1, 3, 3]),
-        Row::Ask(&[], "sat 1 1 1"),
+        Row::Ask(&[1, 2], "sat 1 1 1"),
         Row::Ask(&[3, -1, 3, -2], "unsat -1 -2"),
         Row::Give(&[-1]),
         Row::Give(&[-2]),
@@ -193,12 +193,15 @@ fn stops_at_its_budget(rt: HostRuntime) -> Result<(), Fail> {
         Row::Conflicts(1),
     ];
     run(&rt, rt.alloc(), &rows)?;
+    // Whichever variable is decided first, its first phase, true, is a conflict; the unit that is
+    // learned from it stays.
     let rows = [
         Row::Give(&[-1, 2]),
         Row::Give(&[-1, -2]),
+        Row::Give(&[1, -2]),
         Row::AskWithin(&[], 0, "unknown 0"),
-        Row::Ask(&[], "sat 0 1"),
-        Row::AskWithin(&[], 0, "sat 0 1"),
+        Row::Ask(&[], "sat 0 0"),
+        Row::AskWithin(&[], 0, "sat 0 0"),
     ];
     run(&rt, rt.alloc(), &rows)
 }

@@ -15,7 +15,7 @@ use Rattle.watch_lists.specs.Shorts.{AllMet}
 use Rattle.watch_lists.proofs.Following.{follows_longer}
 use Rattle.watch_lists.proofs.Watched.{quiet_true_in}
 use Rattle.watch_lists.proofs.Looks.{pair_front}
-use Rattle.watch_lists.proofs.Members.{has_place}
+use Rattle.sat_terms.proofs.Members.{has_place}
 
 pub all_quiet : (ids short : List ℕ) (ls : List (List Watch)) (cs : List (List ℕ)) (s : List (Option Stored)) (t : Trace) → IsTrail t.steps t.level → Fits ids [] short ls cs s → AllMet s short (length short) t.steps → WatchedQuiet s (pairs cs) t.steps → AllQuiet ids s t.steps
 all_quiet ids short ls cs s t shape f met quiet id h = go (f.stands id h) where

@@ -8,10 +8,9 @@ use Rattle.trail_state.specs.Trail.{Trace, step, no_step, IsBack}
 use Rattle.watch_lists.specs.declared.lists.Watch.{Watch}
 use Rattle.watch_lists.specs.Watching.{Pair, copy, front, pairs, pair, at, tally, expects, WatchesIt, HoldsPair, Blocks, AllBlock, Kept, TrueIn, Covered, FollowsOn}
 use Rattle.std.proofs.lemmas.List.{take_all, get_or_past, get_or_append_left, length-append}
-use Rattle.sat_terms.proofs.Members.{has_more}
+use Rattle.sat_terms.proofs.Members.{has_more, has_taken}
 use Rattle.watch_lists.specs.Propagation.{Watching, Stands, Fits, TrueAtRoot, AllFixed, Follows}
 use Rattle.watch_lists.proofs.Tallies.{expects_none, expects_some}
-use Rattle.watch_lists.proofs.Members.{has_taken}
 use Rattle.watch_lists.proofs.Marking.{has-append}
 use Rattle.watch_lists.proofs.Fronts.{has_here}
 use Rattle.watch_lists.proofs.Looks.{pair_front}

@@ -4,12 +4,11 @@ use Rattle.std.specs.Prelude.{filter}
 use Rattle.std.proofs.lemmas.Bool.{cases_eq, or_cases, or_left, or_right, eq-eqb, ne_eqb, eqb-true}
 use Rattle.std.proofs.lemmas.List.{get_or-set_same, get_or-set_other}
 use Rattle.sat_terms.specs.Literal.{has, neg}
-use Rattle.sat_terms.proofs.Members.{same_tests}
+use Rattle.sat_terms.proofs.Members.{same_tests, has_place}
 use Rattle.trail_state.specs.declared.trail.Step.{Step}
 use Rattle.trail_state.specs.Trail.{true_on}
 use Rattle.watch_lists.specs.Watching.{front, swapped, copied, SameLits}
 use Rattle.watch_lists.specs.Visiting.{OtherOf, NoneFrom, NoNext}
-use Rattle.watch_lists.proofs.Members.{has_place}
 
 pub has_here : (c : List ℕ) (k l : ℕ) → k < length c → get_or c k 0 ≡ l → has c l ≡ true
 has_here [] k l in' is = absurd (omega arith)

@@ -12,14 +12,10 @@ use Rattle.trail_state.specs.Clauses.{IsUnit, IsReason}
 use Rattle.trail_state.proofs.Changes.{step_new, old_or_new}
 use Rattle.trail_state.proofs.Longer.{step_longer, reason_longer}
 use Rattle.watch_lists.specs.Propagation.{IsReadyAt, AllReady, IsImplied, Grown}
-use Rattle.watch_lists.proofs.Members.{All-has}
+use Rattle.sat_terms.proofs.Members.{All-has}
 
 step_left : (t more : List Step) (i : ℕ) → i < length t → step (t ++ more) i ≡ step t i
 step_left t more i in' = step_longer t more i in'
-
--- a reason stays one on a longer trail
-pub reason_kept : (c : List ℕ) (t more : List Step) (i : ℕ) → i < length t → IsReason c t i → IsReason c (t ++ more) i
-reason_kept c t more i in' h = reason_longer c t more i in' h
 
 implied_kept : (ids : List ℕ) (s : List (Option Stored)) (t more : List Step) (level i : ℕ) → i < length t → IsImplied ids s t level i → IsImplied ids s (t ++ more) level i
 implied_kept ids s t more level i in' h = record {
@@ -27,7 +23,7 @@ implied_kept ids s t more level i in' h = record {
   by = h.by;
   attached = h.attached;
   reason = rw (step_left t more i in') h.reason;
-  implied = reason_kept (slot_lits (slot s h.by)) t more i in' h.implied;
+  implied = reason_longer (slot_lits (slot s h.by)) t more i in' h.implied;
 }
 
 -- a unit clause is a reason for its literal

@@ -1,5 +1,4 @@
 pub mod Marking
-pub mod Members
 pub mod Growing
 pub mod Tallies
 pub mod Watched
@@ -18,5 +17,4 @@ pub mod Placings
 pub mod Ending
 pub mod Detaching
 pub mod Sweeping
-pub mod Resting
 pub mod Testing

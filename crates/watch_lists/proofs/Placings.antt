@@ -15,7 +15,7 @@ use Rattle.watch_lists.specs.Watching.{Pair, copy, front, pairs, pair, at, copie
 use Rattle.watch_lists.proofs.Attaching.{Attaching, kept_attached, follows_attached}
 use Rattle.watch_lists.proofs.Fronts.{has_copied, has_here, two_long}
 use Rattle.watch_lists.proofs.Looks.{pair_front, pairs_long, pairs_set}
-use Rattle.watch_lists.proofs.Members.{has_place}
+use Rattle.sat_terms.proofs.Members.{has_place}
 
 -- a clause of two literals has no others
 pub both_of : (c : List ℕ) (one other k : ℕ) → one < length c → other < length c → one ≢ other → length c ≡ 2 → has c k ≡ true → (k ≡ get_or c one 0) ⊎ (k ≡ get_or c other 0)

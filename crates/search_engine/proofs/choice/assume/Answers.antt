@@ -1,6 +1,6 @@
 use Rattle.std.proofs.Common.{◌≤◌, inl, refl}
 use Rattle.sat_terms.specs.Literal.{var_of}
-use Rattle.watch_lists.proofs.Members.{All-has}
+use Rattle.sat_terms.proofs.Members.{All-has}
 use Rattle.search_engine.proofs.Choices.{decides, decides_assumed, decided_next, decided_keeps, decided_passed}
 use Rattle.search_engine.proofs.choice.assume.Goals as goal
 

@@ -1,7 +1,7 @@
 use Rattle.std.proofs.Common.{◌≡◌, ◌<◌, length, get_or, arith, sym}
 use Rattle.std.proofs.lemmas.List.{take_all}
 use Rattle.std.proofs.lemmas.Option.{get_or_from_slice_get}
-use Rattle.watch_lists.proofs.Members.{has_at}
+use Rattle.sat_terms.proofs.Members.{has_at}
 use Rattle.search_engine.proofs.Freeing.{frees_none, frees_next, still_live}
 use Rattle.search_engine.proofs.forgetting.remove_all.Goals as goal
 

@@ -5,7 +5,7 @@ use Rattle.sat_terms.specs.Literal.{has}
 use Rattle.watch_lists.specs.Watching.{copy}
 use Rattle.watch_lists.specs.Propagation.{ids_of}
 use Rattle.watch_lists.proofs.Marking.{has-ids_of}
-use Rattle.watch_lists.proofs.Members.{has_without}
+use Rattle.sat_terms.proofs.Members.{has_without}
 use Rattle.watch_lists.proofs.Placings.{few_left}
 use Rattle.watch_lists.proofs.Detaching.{held_true, follows_taken, follows_unlisted}
 use Rattle.watch_lists.proofs.watches.Watches.detach.Goals as goal

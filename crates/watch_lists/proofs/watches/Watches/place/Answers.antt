@@ -2,7 +2,7 @@ use Rattle.std.proofs.Common.{◌≡◌, ◌<◌, ◌∙◌, length, sym, ap, re
 use Rattle.std.proofs.lemmas.Bool.{eqb-true}
 use Rattle.watch_lists.specs.Watching.{copy, at}
 use Rattle.watch_lists.specs.Propagation.{Watching, Follows, ids_of}
-use Rattle.watch_lists.proofs.Members.{has_at}
+use Rattle.sat_terms.proofs.Members.{has_at}
 use Rattle.watch_lists.proofs.Following.{follows_short, follows_like}
 use Rattle.watch_lists.proofs.Placings.{follows_watched, no_copy, copy_undone, few_left}
 use Rattle.watch_lists.proofs.watches.Watches.place.Goals as goal
