@@ -415,7 +415,7 @@ unread_refused ws e a =
 
 -- a number that is told is in range
 number_most : (n : ℕ) (digits : List ℕ) → plain_place max_number digits ≡ plain.Value n → n ≤ 2 ^ 62
-number_most n digits e = let P : PlainWord → Type 0 = λ x. IsAtMost most x in let h = subst P e (plain_most most digits) in omega (arith, h)
+number_most n digits e = let P : PlainWord → Type 0 = λ x. IsAtMost max_number x in let h = subst P e (plain_most max_number digits) in omega (arith, h)
 
 -- the numbers of items are in range
 with_range : (i : Item) (front : List (List ℕ)) (o : Options) → AreWordsOf i front → IsInRange o → IsInRange (with_item i o)

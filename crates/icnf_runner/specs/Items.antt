@@ -98,7 +98,7 @@ value_or (Some m) n = m
 
 -- the options that were found
 abbrev pub options_by : Found → Options
-options_by f = record { conflicts = value_or f.conflicts most; callbacks = value_or f.callbacks most; steps = value_or f.steps 1000000; check = f.check }
+options_by f = record { conflicts = value_or f.conflicts max_number; callbacks = value_or f.callbacks max_number; steps = value_or f.steps 1000000; check = f.check }
 
 -- an item begins these words, and these follow it
 abbrev pub IsFirst : List (List ℕ) → Choice → List (List ℕ) → Type 0
