@@ -292,7 +292,7 @@ fn goes_on_after_many_conflicts(rt: HostRuntime) -> Result<(), Fail> {
     };
     ask_more(alloc, &mut solver, &clauses, &mut counts)?;
     assert_eq!(rt; counts.unfit, 0);
-    assert_eq!(rt; (counts.models, counts.cores, counts.unknown), (0, 0, 0));
+    assert!(rt; counts.models > 5 && counts.cores > 5 && counts.unknown > 5);
     Ok(())
 }
 
