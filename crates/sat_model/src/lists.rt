@@ -122,7 +122,7 @@ impl Clauses {
 }
 
 /// The number of a stored clause, below 2^32: ids fill lists of occurrences, watches and reasons, where half a word counts.
-#[derive(Clone, Copy, Debug, PartialEq, Eq, PartialOrd, Ord, Hash)]
+#[derive(Clone, Copy, Debug, Default, PartialEq, Eq, PartialOrd, Ord, Hash)]
 pub struct ClauseId {
     index: u32,
 }
