@@ -6,7 +6,7 @@ struct Peer {
   CaDiCaL::Solver solver;
   void clause(const std::vector<int> &lits) { for (int n : lits) solver.add(n); solver.add(0); }
   bool query(const std::vector<int> &lits) { for (int n : lits) solver.assume(n); return solver.solve() == 10; }
-  void stats() {}
+  void stats() { solver.statistics(); }
 };
 
 int main() { Peer peer; return answer(peer); }
