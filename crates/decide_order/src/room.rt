@@ -1,4 +1,7 @@
 //! Room for more variables.
+//!
+//! A variable is declared in several lists at once. All memory is taken first, list by list, and the lists are only then read
+//! as longer: so where one of them gets no memory, none has changed for its reader.
 ghost use Rattle.std.specs.Prelude.{◌≡◌, ◌≤◌, ℕ, false, length, OnOk, slice_index_or};
 
 use sat_model::memory::Memory;

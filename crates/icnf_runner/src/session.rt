@@ -1,4 +1,8 @@
 //! Clauses and queries, handed to a solver, and the replies to queries.
+//!
+//! Between the reader and the solver: each function here is one step of a session, and its contract names the solver's call that it
+//! makes (`Step`). The reader has counted the literals, so the solver has room for them. A reply is written as soon as it is
+//! there, and read off the solver itself: no text of a model is made.
 ghost use Rattle.std.specs.Prelude.{true, false, ◌≡◌, ◌+◌, ◌≤◌, ◌<◌, ◌^◌, ℕ, List, [], ◌∷◌, ◌++◌, length, Ok, OnOk, OnErr, IfOk, IsErrOf};
 ghost use Rattle.std.specs.Io.KnownBytes.{Appends};
 ghost use Rattle.io_edge.specs.Causes.{Rose, HasCause};

@@ -1,4 +1,8 @@
 //! Standard input, standard output and the words of the command line.
+//!
+//! The run is proved over any source and any sink that count their faults and tell what they gave and took. Here std's readers and
+//! writers become such: each fault is counted, none is taken for the end of the input, and what was written is what the writer took.
+//! The operating system tells nothing of its bytes, so what these two say is said over what the reader or the writer under them tells.
 ghost use Rattle.std.specs.Prelude.{◌≡◌, ◌<◌, ◌≤◌, None, length, take, IfOk, OnOk, OnErr};
 ghost use Rattle.std.specs.Io.{ReadsAtMost};
 ghost use Rattle.std.specs.Io.KnownBytes.{ReadConsumes, WriteAppends, Appends};

@@ -1,4 +1,12 @@
 //! The lines of a source. Each line ends at an LF, which is not part of it; the last line may lack its LF.
+//!
+//! A source gives bytes in pieces of any length. What was read and not used lies ahead (`Ahead`, one buffer); a line is gathered from it
+//! piece by piece up to the next LF, so that each byte is looked at once and copied once, whatever the pieces are. The line before is
+//! forgotten then: memory grows with the longest line alone.
+//!
+//! A limit is met at the very byte that is one too many: what was gathered is counted before more is read, so a line or an input without
+//! end is refused, and never read to its end. After a stop the reader is done. What the bytes mean, comments among
+//! them, is not known here.
 ghost use Rattle.std.specs.Prelude.{◌≡◌, ◌≢◌, ◌+◌, ◌<◌, ◌≤◌, ◌↔◌, ◌⊎◌, ◌^◌, length, if◌then◌else◌, ◌∷◌, Some, IfNone, ℕ, max, List, [], OnOk, OnErr, IfOk, IfErr, IsTrue, IsErrOf, Bool, true, false, Contains};
 ghost use Rattle.std.specs.Io.KnownBytes.{prepend_known, IsAtEnd, Keeps};
 ghost use Rattle.io_edge.specs.Causes.{HasCause, Rose};

@@ -1,4 +1,8 @@
-//! The search.
+//! The search: backtracking in its plainest form, which the solver is compared with.
+//!
+//! All clauses are looked at from the first on, at each turn. A false one turns the newest decision round; one with a single literal left
+//! assigns it; where there is neither, the least variable without a value is decided. Nothing is learned, nothing is indexed, so that
+//! little can be wrong and all of it is short; it takes exponential time where a search that learns does not.
 ghost use Rattle.std.specs.Prelude.{◌≡◌, ◌+◌, ◌<◌, ◌≤◌, length, All, IfOk, IfSome, IfNone};
 ghost use Rattle.sat_terms.specs.Answer.{Satisfies, Within, IsModel, NoModel};
 ghost use Rattle.plain_search.specs.Rules.{rules};

@@ -1,4 +1,15 @@
 //! Reconstruction stacks.
+//!
+//! A pass may take out a clause that a model of the rest need not make true. The clause then stands on a stack, with a witness: literals
+//! that are set true where a model makes the clause false (Järvisalo, Heule and Biere, "Inprocessing rules", IJCAR 2012). A model is
+//! extended by going through the stack from the newest entry to the oldest: an older witness breaks no firm clause and no newer entry's.
+//!
+//! Between queries new clauses come, and a witness may break them. A clause is clean where no witness holds the negation of one of its
+//! literals; where it is not, the entries that stand in its way are taken out, from the newest to the oldest, and their clauses are firm
+//! again (Fazekas, Biere and Scholl, "Incremental inprocessing in SAT solving", SAT 2019). `next_tainted` finds them one by one.
+//!
+//! The stack keeps of each entry what makes extending right in itself (`IsStack`): the witness holds no opposite literals, and one literal of
+//! the clause, so that setting it makes the clause true. That no other clause is broken is the rules' business (rule_kernel).
 ghost use Rattle.std.specs.Prelude.{◌≡◌, ◌<◌, ◌==◌, ◌↔◌, ◌++◌, [], ◌∷◌, length, OnErr, OnOk, IsTrue, remove, IfSome, IfNone};
 ghost use Rattle.std.specs.List.{list_all};
 ghost use Rattle.sat_terms.specs.Literal.{neg as opposite};
