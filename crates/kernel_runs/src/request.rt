@@ -8,6 +8,7 @@ const MOST: u32 = 1_000_000;
 #[derive(Clone, Copy, Debug, PartialEq, Eq)]
 pub(crate) enum Run {
     Add,
+    Jump,
     Shared,
     Apart,
     Spread,
@@ -24,6 +25,7 @@ pub(crate) struct Request {
 fn run_of(name: &str) -> Option<Run> {
     match name {
         "add" => Some(Run::Add),
+        "jump" => Some(Run::Jump),
         "shared" => Some(Run::Shared),
         "apart" => Some(Run::Apart),
         "spread" => Some(Run::Spread),
