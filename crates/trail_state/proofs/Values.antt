@@ -1,13 +1,14 @@
 -- Laws of the table of values.
-use Rattle.std.proofs.Common.{◌≡◌, ◌≢◌, ℕ, zero, suc, ◌+◌, ◌-◌, ◌*◌, ◌<◌, ◌≤◌, Bool, true, false, ◌||◌, eqb, List, [], ◌∷◌, ◌++◌, length, length-set, length-append, get_or, set, take, replicate, inl, inr, refl, sym, ap, ◌∙◌, arith, Option, Some, None}
-use Rattle.std.proofs.lemmas.Bool.{cases_eq, cases_lt, or_left, or_right, eq-eqb, ne_eqb, false≢true}
+use Rattle.std.proofs.Common.{◌≡◌, ◌≢◌, ℕ, zero, suc, ◌+◌, ◌-◌, ◌*◌, ◌<◌, ◌≤◌, Bool, true, false, ◌||◌, cond, eqb, List, [], ◌∷◌, ◌++◌, length, length-set, length-append, get_or, set, take, replicate, inl, inr, refl, sym, ap, ◌∙◌, arith, Option, Some, None}
+use Rattle.std.proofs.lemmas.Bool.{cases_eq, cases_lt, or_left, or_right, eq-eqb, ne_eqb}
 use Rattle.std.proofs.lemmas.List.{get_or_past, get_or_append_left, get_or-append_right, get_or-take, length-replicate, length-take-le, get_or-set_same, get_or-set_other, take_more, take_all}
 use Rattle.sat_terms.specs.Literal.{neg, var_of}
 use Rattle.sat_terms.proofs.Literals.{neg-neg, neg-other, var_of-neg}
 use Rattle.trail_state.specs.declared.trail.Step.{Step}
 use Rattle.trail_state.specs.Trail.{step, no_step, true_on, value_on, IsApart}
+use Rattle.trail_state.specs.Mark.{says_true, says_false}
 use Rattle.trail_state.specs.Table.{IsValued, TableFits}
-use Rattle.trail_state.proofs.Places.{value_none, place_none}
+use Rattle.trail_state.proofs.Places.{value_none, place_none, place_of_true}
 use Rattle.trail_state.proofs.Backing.{step_take}
 
 -- the codes of the variables up to n
@@ -18,6 +19,10 @@ code_below l n h = omega arith
 code_above : (l n : ℕ) → 2 * n + 2 ≤ l → n < var_of l
 unfolding var_of
 code_above l n h = omega arith
+
+pub var_positive : (l : ℕ) → 2 ≤ l → 0 < var_of l
+unfolding var_of
+var_positive l h = omega arith
 
 true_more : (t : List Step) (x : Step) (l : ℕ) → x.lit ≢ l → true_on (t ++ x ∷ []) l ≡ true_on t l
 true_more [] x l n = rw (ne_eqb x.lit l n) refl
@@ -171,3 +176,29 @@ valued_wider vs vs' p d d' count n had t h fits more le n-is had-is vs-is = reco
 
     long : length vs' ≡ n
     long = ap length vs-is ∙ long'
+
+-- a literal and its negation are not both true
+pub not_both : (t : List Step) (l : ℕ) → IsApart t → true_on t l ≡ true → true_on t (neg l) ≡ true → ⊥
+not_both t l apart h m =
+    let a = place_of_true t l h in
+    let b = place_of_true t (neg l) m in
+    let same = apart a.0 b.0 a.1 b.1 (ap var_of a.2 ∙ sym (var_of-neg l) ∙ sym (ap var_of b.2)) in
+    neg-other l (sym b.2 ∙ sym (ap (λ i. (step t i).lit) same) ∙ a.2)
+
+-- what a value says
+true_of : (a b : Bool) → says_true (cond a (Some true) (cond b (Some false) None)) ≡ a
+true_of true b = refl
+true_of false true = refl
+true_of false false = refl
+
+false_of : (a b : Bool) → (a ≡ true → b ≡ true → ⊥) → says_false (cond a (Some true) (cond b (Some false) None)) ≡ b
+false_of true true h = absurd (h refl refl)
+false_of true false h = refl
+false_of false true h = refl
+false_of false false h = refl
+
+pub value_true : (t : List Step) (l : ℕ) → says_true (value_on t l) ≡ true_on t l
+value_true t l = true_of (true_on t l) (true_on t (neg l))
+
+pub value_false : (t : List Step) (l : ℕ) → IsApart t → says_false (value_on t l) ≡ true_on t (neg l)
+value_false t l apart = false_of (true_on t l) (true_on t (neg l)) (not_both t l apart)

@@ -1,5 +1,5 @@
 -- The value of a literal in one byte.
-use Rattle.std.specs.Prelude.{◌≡◌, Bool, true, false, Option, Some, None, refl}
+use Rattle.std.specs.Prelude.{◌≡◌, Bool, true, false, not, Option, Some, None, refl}
 use Rattle.trail_state.specs.declared.mark.Truth.{Truth}
 use Rattle.trail_state.specs.declared.mark.Truth.TheVariants.{Open, True, False}
 
@@ -13,6 +13,15 @@ abbrev pub mark_of : Option Bool → Truth
 mark_of None = Open
 mark_of (Some true) = True
 mark_of (Some false) = False
+
+-- whether a value is true, and whether it is false
+abbrev pub says_true : Option Bool → Bool
+says_true None = false
+says_true (Some b) = b
+
+abbrev pub says_false : Option Bool → Bool
+says_false None = false
+says_false (Some b) = not b
 
 pub mark_of-meaning : (v : Truth) → mark_of (meaning v) ≡ v
 mark_of-meaning Open = refl

@@ -2,7 +2,7 @@
 //!
 //! The table of values is read for every literal that propagation looks at, so it has a byte for each literal and no tag beside it.
 ghost use Rattle.std.specs.Prelude.{◌≡◌, Some, None};
-ghost use Rattle.trail_state.specs.Mark.{meaning};
+ghost use Rattle.trail_state.specs.Mark.{meaning, says_true, says_false};
 
 use std::marker::Model;
 
@@ -67,6 +67,28 @@ impl Mark {
             Truth::Open => None,
             Truth::True => Some(true),
             Truth::False => Some(false),
+        }
+    }
+
+    // Whether the value is true.
+    pub(crate) fn is_true(self) -> bool
+        ensures { result ≡ says_true self }
+    {
+        match self.truth {
+            Truth::True => true,
+            Truth::Open => false,
+            Truth::False => false,
+        }
+    }
+
+    // Whether the value is false.
+    pub(crate) fn is_false(self) -> bool
+        ensures { result ≡ says_false self }
+    {
+        match self.truth {
+            Truth::False => true,
+            Truth::Open => false,
+            Truth::True => false,
         }
     }
 }

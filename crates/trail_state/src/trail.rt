@@ -17,8 +17,8 @@
 //! memory, for all that can come: a variable stands on the trail once. The tables by variable and by literal are those of MiniSat (Eén
 //! and Sörensson, 2003), whose trail has the place at which each level starts too.
 ghost use Rattle.std.specs.Prelude.{◌≡◌, ◌≢◌, ◌<◌, ◌≤◌, ◌+◌, ◌^◌, ◌-◌, ℕ, true, false, [], ◌∷◌, ◌++◌, length, max, replicate, None, OnOk, OnErr, IsOk, slice_index_or, vec_capacity};
-ghost use Rattle.sat_terms.specs.Literal.{var_of};
-ghost use Rattle.trail_state.specs.Trail.{step, lits_of, value_on, level_on, reason_on, place_on, level_after, IsTrail, IsStart, IsBack, HasRoom};
+ghost use Rattle.sat_terms.specs.Literal.{neg, var_of};
+ghost use Rattle.trail_state.specs.Trail.{step, lits_of, true_on, value_on, level_on, reason_on, place_on, level_after, IsTrail, IsStart, IsBack, HasRoom};
 ghost use Rattle.trail_state.specs.Table.{empty_entry, opens, start_by, reason_by, is_decision, is_theory, starts_after, flags_after};
 ghost use Rattle.trail_state.specs.Rank.{rank};
 ghost use Rattle.trail_state.specs.declared.reason.Reason.TheVariants.{Decision};
@@ -167,6 +167,22 @@ impl Trail {
         } else {
             None
         }
+    }
+
+    /// Whether a literal of a declared variable is true: one read of the table.
+    pub fn is_true(&self, lit: Lit) -> bool
+        requires { var_of lit ≤ self.now.declared }
+        ensures { result ≡ true_on self.now.steps lit }
+    {
+        self.values[lit.code() as usize].is_true()
+    }
+
+    /// Whether a literal of a declared variable is false: one read of the table.
+    pub fn is_false(&self, lit: Lit) -> bool
+        requires { var_of lit ≤ self.now.declared }
+        ensures { result ≡ true_on self.now.steps (neg lit) }
+    {
+        self.values[lit.code() as usize].is_false()
     }
 
     /// The level of a variable. `None` exactly where it is unassigned or undeclared.

@@ -1,76 +1,18 @@
 -- Laws of the two literals in front of a copy.
-use Rattle.std.proofs.Common.{◌≡◌, ◌≢◌, ℕ, suc, zero, ◌<◌, ◌≤◌, Bool, true, false, not, ◌&&◌, eqb, List, [], ◌∷◌, length, length-set, get_or, set, inl, inr, refl, sym, ap, ◌∙◌, arith}
+use Rattle.std.proofs.Common.{◌≡◌, ◌≢◌, ℕ, suc, zero, ◌<◌, ◌≤◌, Bool, true, false, not, ◌&&◌, ◌||◌, eqb, List, [], ◌∷◌, length, get_or, set, inl, inr, refl, sym, ap, ◌∙◌, arith}
 use Rattle.std.specs.Prelude.{filter}
 use Rattle.std.proofs.lemmas.Bool.{cases_eq, or_cases, or_left, or_right, eq-eqb, ne_eqb, eqb-true}
-use Rattle.std.proofs.lemmas.List.{get_or-set_same, get_or-set_other}
 use Rattle.sat_terms.specs.Literal.{has, neg}
 use Rattle.sat_terms.proofs.Members.{same_tests, has_place}
 use Rattle.trail_state.specs.declared.trail.Step.{Step}
 use Rattle.trail_state.specs.Trail.{true_on}
-use Rattle.watch_lists.specs.Watching.{front, swapped, copied, SameLits}
+use Rattle.watch_lists.specs.Watching.{front, turned, copied, SameLits}
 use Rattle.watch_lists.specs.Visiting.{OtherOf, NoneFrom, NoNext}
 
 pub has_here : (c : List ℕ) (k l : ℕ) → k < length c → get_or c k 0 ≡ l → has c l ≡ true
 has_here [] k l in' is = absurd (omega arith)
 has_here (x ∷ c) zero l in' is = or_left (eqb x l) (has c l) (eq-eqb x l is)
 has_here (x ∷ c) (suc k) l in' is = or_right (eqb x l) (has c l) (has_here c k l (omega arith) is)
-
--- two members exchanged
-pub swapped_long : (c : List ℕ) (i j : ℕ) → length (swapped c i j) ≡ length c
-swapped_long c i j = length-set (set c i (get_or c j 0)) j (get_or c i 0) ∙ length-set c i (get_or c j 0)
-
-pub has_swapped : (c : List ℕ) (i j l : ℕ) → i < length c → j < length c → has (swapped c i j) l ≡ has c l
-has_swapped c i j l in-i in-j = same_tests (has (swapped c i j) l) (has c l) there back where
-  c1 : List ℕ
-  c1 = set c i (get_or c j 0)
-
-  there : has (swapped c i j) l ≡ true → has c l ≡ true
-  there h =
-      let r = has_place (swapped c i j) l 0 h in
-      let k = r.0 in
-      let size = swapped_long c i j in
-      let size1 : length (set c i (get_or c j 0)) ≡ length c = length-set c i (get_or c j 0) in
-      let within = r.1 in
-      elim (cases_eq k j) [
-        | inl e ↦
-            let a : get_or (swapped c i j) k 0 ≡ get_or c i 0 = ap (λ z. get_or (swapped c i j) z 0) e ∙ get_or-set_same (set c i (get_or c j 0)) j (get_or c i 0) 0 (omega arith) in
-            has_here c i l in-i (sym a ∙ r.2)
-        | inr n ↦
-            let a : get_or (swapped c i j) k 0 ≡ get_or (set c i (get_or c j 0)) k 0 = get_or-set_other (set c i (get_or c j 0)) j k (get_or c i 0) 0 n in
-            elim (cases_eq k i) [
-              | inl e ↦
-                  let b : get_or (set c i (get_or c j 0)) k 0 ≡ get_or c j 0 = ap (λ z. get_or (set c i (get_or c j 0)) z 0) e ∙ get_or-set_same c i (get_or c j 0) 0 in-i in
-                  has_here c j l in-j (sym b ∙ sym a ∙ r.2)
-              | inr m ↦
-                  let b : get_or (set c i (get_or c j 0)) k 0 ≡ get_or c k 0 = get_or-set_other c i k (get_or c j 0) 0 m in
-                  has_here c k l (omega arith) (sym b ∙ sym a ∙ r.2)
-            ]
-      ]
-
-  back : has c l ≡ true → has (swapped c i j) l ≡ true
-  back h =
-      let r = has_place c l 0 h in
-      let k = r.0 in
-      let size = swapped_long c i j in
-      let size1 : length (set c i (get_or c j 0)) ≡ length c = length-set c i (get_or c j 0) in
-      let within = r.1 in
-      elim (cases_eq k i) [
-        | inl e ↦
-            let a : get_or (swapped c i j) j 0 ≡ get_or c i 0 = get_or-set_same (set c i (get_or c j 0)) j (get_or c i 0) 0 (omega arith) in
-            has_here (swapped c i j) j l (omega arith) (a ∙ ap (λ z. get_or c z 0) (sym e) ∙ r.2)
-        | inr n ↦
-            elim (cases_eq k j) [
-              | inl e ↦
-                  let n' : i ≢ j = λ q. n (e ∙ sym q) in
-                  let a : get_or (swapped c i j) i 0 ≡ get_or (set c i (get_or c j 0)) i 0 = get_or-set_other (set c i (get_or c j 0)) j i (get_or c i 0) 0 n' in
-                  let b : get_or (set c i (get_or c j 0)) i 0 ≡ get_or c j 0 = get_or-set_same c i (get_or c j 0) 0 in-i in
-                  has_here (swapped c i j) i l (omega arith) (a ∙ b ∙ ap (λ z. get_or c z 0) (sym e) ∙ r.2)
-              | inr m ↦
-                  let a : get_or (swapped c i j) k 0 ≡ get_or (set c i (get_or c j 0)) k 0 = get_or-set_other (set c i (get_or c j 0)) j k (get_or c i 0) 0 m in
-                  let b : get_or (set c i (get_or c j 0)) k 0 ≡ get_or c k 0 = get_or-set_other c i k (get_or c j 0) 0 n in
-                  has_here (swapped c i j) k l (omega arith) (a ∙ b ∙ r.2)
-            ]
-      ]
 
 -- two different literals in front say that there are two
 pub two_long : (c : List ℕ) → (front c).first ≢ (front c).second → 2 ≤ length c
@@ -83,25 +25,36 @@ front_read [] x y two a b = absurd (omega arith)
 front_read (p ∷ []) x y two a b = absurd (omega arith)
 front_read (p ∷ q ∷ c) x y two a b = rw (a, b) refl
 
--- what is in front once a literal that is not is exchanged with the second, and with the first
-pub front_second : (c : List ℕ) (k : ℕ) → 2 ≤ k → k < length c → front (swapped c 1 k) ≡ record { first = (front c).first; second = get_or c k 0 }
-front_second [] k late in' = absurd (omega arith)
-front_second (a ∷ []) k late in' = absurd (omega arith)
-front_second (a ∷ b ∷ c) zero late in' = absurd (omega arith)
-front_second (a ∷ b ∷ c) (suc zero) late in' = absurd (omega arith)
-front_second (a ∷ b ∷ c) (suc (suc k)) late in' = refl
+-- two literals come in front, and the one that was there goes to the place of one of them
+pub front_turned : (c : List ℕ) (a b k x : ℕ) → 2 ≤ k → k < length c → front (turned c a b k x) ≡ record { first = a; second = b }
+front_turned [] a b k x late in' = absurd (omega arith)
+front_turned (p ∷ []) a b k x late in' = absurd (omega arith)
+front_turned (p ∷ q ∷ c) a b zero x late in' = absurd (omega arith)
+front_turned (p ∷ q ∷ c) a b (suc zero) x late in' = absurd (omega arith)
+front_turned (p ∷ q ∷ c) a b (suc (suc k)) x late in' = refl
 
-pub front_turned : (c : List ℕ) → 2 ≤ length c → front (swapped c 0 1) ≡ record { first = (front c).second; second = (front c).first }
-front_turned [] two = absurd (omega arith)
-front_turned (a ∷ []) two = absurd (omega arith)
-front_turned (a ∷ b ∷ c) two = refl
+or_turned : (a b c : Bool) → (a || (b || c)) ≡ (b || (a || c))
+or_turned true true c = refl
+or_turned true false c = refl
+or_turned false b c = refl
 
-pub turned_read : (c : List ℕ) (k : ℕ) → 2 ≤ k → get_or (swapped c 0 1) k 0 ≡ get_or c k 0
-turned_read [] k late = refl
-turned_read (a ∷ []) k late = let e = get_or-set_other (set (a ∷ []) 0 (get_or (a ∷ []) 1 0)) 1 k a 0 (λ q. absurd (omega arith)) in e ∙ get_or-set_other (a ∷ []) 0 k (get_or (a ∷ []) 1 0) 0 (λ q. absurd (omega arith))
-turned_read (a ∷ b ∷ c) zero late = absurd (omega arith)
-turned_read (a ∷ b ∷ c) (suc zero) late = absurd (omega arith)
-turned_read (a ∷ b ∷ c) (suc (suc k)) late = refl
+put_has : (c : List ℕ) (k b x l : ℕ) → k < length c → get_or c k 0 ≡ b → (eqb b l || has (set c k x) l) ≡ (eqb x l || has c l)
+put_has [] k b x l in' is = absurd (omega arith)
+put_has (y ∷ c) zero b x l in' is = rw (← is) (or_turned (eqb y l) (eqb x l) (has c l))
+put_has (y ∷ c) (suc k) b x l in' is =
+    or_turned (eqb b l) (eqb y l) (has (set c k x) l) ∙ ap (λ z. eqb y l || z) (put_has c k b x l (omega arith) is) ∙ or_turned (eqb y l) (eqb x l) (has c l)
+
+pub has_turned : (c : List ℕ) (a b k x l : ℕ) → 2 ≤ k → k < length c → OtherOf (front c) x a → get_or c k 0 ≡ b → has (turned c a b k x) l ≡ has c l
+has_turned [] a b k x l late in' one is = absurd (omega arith)
+has_turned (p ∷ []) a b k x l late in' one is = absurd (omega arith)
+has_turned (p ∷ q ∷ c) a b zero x l late in' one is = absurd (omega arith)
+has_turned (p ∷ q ∷ c) a b (suc zero) x l late in' one is = absurd (omega arith)
+has_turned (p ∷ q ∷ c) a b (suc (suc k)) x l late in' one is =
+    ap (λ z. eqb a l || z) (put_has c k b x l (omega arith) is)
+    ∙ elim one [
+      | inl e ↦ or_turned (eqb a l) (eqb x l) (has c l) ∙ ap (λ z. eqb z l || (eqb a l || has c l)) (sym e.0) ∙ ap (λ z. eqb p l || (eqb z l || has c l)) (sym e.1)
+      | inr e ↦ ap (λ z. eqb z l || (eqb x l || has c l)) (sym e.1) ∙ ap (λ z. eqb p l || (eqb z l || has c l)) (sym e.0)
+    ]
 
 -- where the other literals of the copy are false, so are those of the clause
 pub none_next : (t : List Step) (c d : List ℕ) (f o : ℕ) → OtherOf (front c) f o → (front c).first ≢ (front c).second → true_on t (neg f) ≡ true → NoneFrom t c o (length c) → SameLits c d → NoNext t d o

@@ -2,16 +2,18 @@
 use Rattle.std.proofs.Common.{◌≡◌, ◌≢◌, ℕ, suc, zero, ◌+◌, ◌<◌, ◌≤◌, Bool, true, false, not, ◌&&◌, eqb, List, [], ◌∷◌, ◌++◌, length, get_or, set, inl, inr, refl, sym, ap, ◌∙◌, subst, arith, Option}
 use Rattle.std.proofs.lemmas.Bool.{false≢true, cases_eq, eq-eqb, ne_eqb}
 use Rattle.std.proofs.lemmas.List.{get_or_default, map-set, length-map, get_or-set_same, get_or-set_other}
-use Rattle.sat_terms.specs.Literal.{has, neg}
+use Rattle.sat_terms.specs.Literal.{has, neg, var_of}
+use Rattle.sat_terms.specs.Answer.{Within}
+use Rattle.sat_terms.proofs.Members.{All-has}
 use Rattle.clause_store.specs.Stored.{Stored, slot, slot_lits}
 use Rattle.trail_state.specs.declared.trail.Step.{Step}
 use Rattle.trail_state.specs.Trail.{Trace, true_on}
 use Rattle.watch_lists.specs.declared.lists.Watch.{Watch}
 use Rattle.watch_lists.specs.declared.visits.Settled.{Settled}
 use Rattle.watch_lists.specs.declared.visits.Settled.TheVariants.{Stays, Moves as Moved, False}
-use Rattle.watch_lists.specs.Watching.{Pair, copy, front, pairs, pair, at, swapped, Blocks, SameLits, AllCopied, CopiesKeep}
-use Rattle.watch_lists.specs.Visiting.{OtherOf, IsNextAt, NoneFrom, MovesTo, ConcludedIs, Stayed, SettledIs}
-use Rattle.watch_lists.proofs.Fronts.{has_swapped, swapped_long, front_second, front_turned, turned_read, two_long, has_here, front_read}
+use Rattle.watch_lists.specs.Watching.{Pair, copy, front, pairs, pair, at, turned, Blocks, SameLits, AllCopied, CopiesKeep}
+use Rattle.watch_lists.specs.Visiting.{AllDeclared, OtherOf, IsNextAt, NoneFrom, MovesTo, ConcludedIs, Stayed, SettledIs}
+use Rattle.watch_lists.proofs.Fronts.{has_turned, front_turned, two_long, has_here, front_read}
 use Rattle.watch_lists.proofs.Watched.{true_in_from}
 
 -- a literal that may be watched, as the code reads it
@@ -63,55 +65,16 @@ pub moved_list : (ls : List (List Watch)) (code next : ℕ) (d new : List Watch)
 moved_list ls code next d new w e in' is =
     ap (set ls code) (is ∙ ap (λ z. z ++ w ∷ []) (get_or_default ls code d [] (rw e in'))) ∙ ap (λ z. set ls z (at ls z ++ w ∷ [])) e
 
--- a watch moves from the second literal in front, and from the first
-module _ (id f other k next code : ℕ) (ls ls' : List (List Watch)) (cs cs' : List (List ℕ)) (d new : List Watch)
-    (one : OtherOf (front (copy cs id)) f other) (differ : (front (copy cs id)).first ≢ (front (copy cs id)).second) (late : 2 ≤ k) (within : k < length (copy cs id))
-    (listed : get_or (copy cs id) k 0 < length ls) (next-is : next ≡ get_or (copy cs id) k next) (code-is : code ≡ next) (pushed : new ≡ get_or ls code d ++ record { id = id; blocker = other; binary = false } ∷ []) (lists-is : ls' ≡ set ls code new) where
-  abbrev pub c : List ℕ
-  c = copy cs id
-
-  there : next ≡ get_or c k 0
-  there = next-is ∙ get_or_default c k next 0 within
-
-  lists_moved : ls' ≡ set ls (get_or c k 0) (at ls (get_or c k 0) ++ record { id = id; blocker = other; binary = false } ∷ [])
-  lists_moved = lists-is ∙ moved_list ls code (get_or c k 0) d new (record { id = id; blocker = other; binary = false }) (code-is ∙ there) listed pushed
-
-  second_is : (front c).first ≢ f → (front c).first ≡ other
-  second_is n = elim one [ inl e ↦ absurd (n e.0) | inr e ↦ e.1 ]
-
-  first_is : (front c).first ≡ f → (front c).second ≡ other
-  first_is e = elim one [ inl q ↦ q.1 | inr q ↦ absurd (differ (e ∙ sym q.0)) ]
-
-  pub moves_second : (front c).first ≢ f → cs' ≡ set cs id (swapped c 1 k) → MovesTo id f other k ls ls' cs cs'
-  moves_second n e = record {
-    lists = lists_moved;
-    now = swapped c 1 k;
-    copies = e;
-    fronted = front_second c k late within ∙ ap (λ z. record { first = z; second = get_or c k 0 }) (second_is n);
-    same = λ l. has_swapped c 1 k l (let two = two_long c differ in omega arith) within;
-  }
-
-  pub moves_first : (front c).first ≡ f → (cs1 : List (List ℕ)) → cs1 ≡ set cs id (swapped c 0 1) → id < length cs → cs' ≡ set cs1 id (swapped (copy cs1 id) 1 k) → MovesTo id f other k ls ls' cs cs'
-  moves_first is cs1 one-is known two-is =
-      let two = two_long c differ in
-      let now : copy cs1 id ≡ swapped c 0 1 = ap (λ z. copy z id) one-is ∙ get_or-set_same cs id (swapped c 0 1) [] known in
-      let long : length (swapped c 0 1) ≡ length c = swapped_long c 0 1 in
-      record {
-        lists = lists_moved;
-        now = swapped (swapped c 0 1) 1 k;
-        copies = two-is ∙ ap (λ z. set cs1 id (swapped z 1 k)) now ∙ ap (λ z. set z id (swapped (swapped c 0 1) 1 k)) one-is ∙ twice cs id (swapped c 0 1) (swapped (swapped c 0 1) 1 k);
-        fronted =
-            front_second (swapped c 0 1) k late (omega arith)
-            ∙ ap (λ (z : Pair). record { first = z.first; second = get_or (swapped c 0 1) k 0 }) (front_turned c two)
-            ∙ ap (λ z. record { first = z; second = get_or (swapped c 0 1) k 0 }) (first_is is)
-            ∙ ap (λ z. record { first = other; second = z }) (turned_read c k late);
-        same = λ l. has_swapped (swapped c 0 1) 1 k l (omega arith) (omega arith) ∙ has_swapped c 0 1 l (omega arith) (omega arith);
-      }
-    where
-      twice : (xs : List (List ℕ)) (i : ℕ) (x y : List ℕ) → set (set xs i x) i y ≡ set xs i y
-      twice [] i x y = refl
-      twice (z ∷ xs) zero x y = refl
-      twice (z ∷ xs) (suc i) x y = ap (λ u. z ∷ u) (twice xs i x y)
+-- a watch moves
+pub moves : (id f other k next code : ℕ) (ls ls' : List (List Watch)) (cs cs' : List (List ℕ)) (d new : List Watch) → OtherOf (front (copy cs id)) f other → 2 ≤ k → k < length (copy cs id) → get_or (copy cs id) k 0 < length ls → next ≡ get_or (copy cs id) k 0 → code ≡ next
+    → new ≡ get_or ls code d ++ record { id = id; blocker = other; binary = false } ∷ [] → ls' ≡ set ls code new → cs' ≡ set cs id (turned (copy cs id) other next k f) → MovesTo id f other k ls ls' cs cs'
+moves id f other k next code ls ls' cs cs' d new one late within listed next-is code-is pushed lists-is copies-is = record {
+  lists = lists-is ∙ moved_list ls code (get_or (copy cs id) k 0) d new (record { id = id; blocker = other; binary = false }) (code-is ∙ next-is) listed pushed;
+  now = turned (copy cs id) other next k f;
+  copies = copies-is;
+  fronted = front_turned (copy cs id) other next k f late within ∙ ap (λ z. record { first = other; second = z }) next-is;
+  same = λ l. has_turned (copy cs id) other next k f l late within one (sym next-is);
+}
 
 -- what became of a watch
 pub stays_met : (c : List ℕ) (f : ℕ) (w : Watch) (ls : List (List Watch)) (cs : List (List ℕ)) (t : List Step) → Blocks c f w → true_on t w.blocker ≡ true → Stayed c f w ls ls cs cs t
@@ -172,3 +135,10 @@ keeps_moved cs cs' id other next now known differ e fronted apart = record {
 
     there : (k : ℕ) → k ≢ id → copy cs' k ≡ copy cs k
     there k m = ap (λ z. copy z k) e ∙ get_or-set_other cs id k now [] m
+
+-- the literals of a copy are declared as those of the clause are
+pub declared_at : (n : ℕ) (c : List ℕ) (l : ℕ) → Within n c → has c l ≡ true → var_of l ≤ n
+declared_at n c l h m = let both : (1 ≤ var_of l) × (var_of l ≤ n) = All-has (λ x. (1 ≤ var_of x) × (var_of x ≤ n)) c l h m in both.1
+
+pub declared_within : (n : ℕ) (c d : List ℕ) → Within n d → SameLits c d → AllDeclared n c
+declared_within n c d h same l m = declared_at n d l h (sym (same l) ∙ m)

@@ -6,13 +6,13 @@ use Rattle.trail_state.specs.declared.trail.Step.{Step}
 use Rattle.trail_state.specs.Trail.{step, true_on, place_on, level_on, IsTrail}
 use Rattle.trail_state.proofs.Places.{place_nowhere, place_some, place_apart, level_at, place_of_true, true_at_place}
 use Rattle.watch_lists.specs.Placing.{IsLow, IsNoHigher}
-use Rattle.watch_lists.proofs.Watched.{not_both}
+use Rattle.trail_state.proofs.Values.{not_both}
 
 pub low_nowhere : (t : List Step) (l other head : ℕ) → place_on t (var_of l) ≡ None → IsLow t l other head
 low_nowhere t l other head none i below in' is = absurd (place_nowhere t (var_of l) none i in' (ap var_of is ∙ var_of-neg l))
 
 pub low_true : (t : List Step) (top l other head : ℕ) → IsTrail t top → true_on t l ≡ true → IsLow t l other head
-low_true t top l other head shape on i below in' is = absurd (not_both t top l shape on (true_at_place t i (neg l) in' is))
+low_true t top l other head shape on i below in' is = absurd (not_both t l shape.apart on (true_at_place t i (neg l) in' is))
 
 pub low_before : (t : List Step) (top l other head p : ℕ) → IsTrail t top → place_on t (var_of l) ≡ Some p → head ≤ p → IsLow t l other head
 low_before t top l other head p shape here le i below in' is =

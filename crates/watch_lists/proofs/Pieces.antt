@@ -6,7 +6,7 @@ use Rattle.std.proofs.lemmas.List.Sums.{sum_by_push, sum_by-set, sum_by-cons, su
 use Rattle.std.proofs.Math.Seq.{take-set-lt}
 use Rattle.watch_lists.specs.declared.copies.Place.{Place}
 use Rattle.watch_lists.specs.Copying.{piece, pieces, place, words_of, AreClear, IsLaid, IsCounted}
-use Rattle.watch_lists.specs.Watching.{copy, swapped}
+use Rattle.watch_lists.specs.Watching.{copy, turned}
 
 abbrev pub no_place : Place
 no_place = record { start = 0; len = 0 }
@@ -99,23 +99,31 @@ copy_length w ps id known fits =
     let p = place ps id in
     ap length (copy_at w ps id known) ∙ length-take-le p.len (drop p.start w) (let d = length-drop p.start w in omega arith)
 
--- two literals of a copy are exchanged
-pub pieces_swap : (w : List ℕ) (ps : List Place) (id i j x y start : ℕ) → IsLaid w ps → id < length ps → i < (place ps id).len → j < (place ps id).len → start ≡ (place ps id).start
-    → x ≡ get_or (copy (pieces w ps) id) i 0 → y ≡ get_or (copy (pieces w ps) id) j 0 → pieces (set (set w (start + i) y) (start + j) x) ps ≡ set (pieces w ps) id (swapped (copy (pieces w ps) id) i j)
-pieces_swap w ps id i j x y start h known in-i in-j start-is x-is y-is =
-    let w1 = set w ((place ps id).start + i) y in
-    let c = copy (pieces w ps) id in
-    let one : pieces w1 ps ≡ set (pieces w ps) id (set c i y) = pieces_set w ps id i y h known in-i in
-    let two : pieces (set w1 ((place ps id).start + j) x) ps ≡ set (pieces w1 ps) id (set (copy (pieces w1 ps) id) j x) = pieces_set w1 ps id j x (laid_set w ps ((place ps id).start + i) y h) known in-j in
-    let b = pieces_long w ps in
-    let now : copy (pieces w1 ps) id ≡ set c i y = ap (λ z. copy z id) one ∙ get_or-set_same (pieces w ps) id (set c i y) [] (omega arith) in
-    ap (λ z. pieces (set (set w (z + i) y) (z + j) x) ps) start-is
-    ∙ two
-    ∙ ap (λ z. set (pieces w1 ps) id (set z j x)) now
-    ∙ ap (λ z. set z id (set (set c i y) j x)) one
-    ∙ set_set (pieces w ps) id (set c i y) (set (set c i y) j x)
-    ∙ ap (λ z. set (pieces w ps) id (set (set c i z) j x)) y-is
-    ∙ ap (λ z. set (pieces w ps) id (set (set c i (get_or c j 0)) j z)) x-is
+-- a literal more of a copy is written
+piece_more : (w : List ℕ) (ps : List Place) (cs : List (List ℕ)) (c : List ℕ) (id i x : ℕ) → IsLaid w ps → id < length ps → length cs ≡ length ps → i < (place ps id).len → pieces w ps ≡ set cs id c
+    → pieces (set w ((place ps id).start + i) x) ps ≡ set cs id (set c i x)
+piece_more w ps cs c id i x h known long in' e =
+    let now : copy (pieces w ps) id ≡ c = ap (λ z. copy z id) e ∙ get_or-set_same cs id c [] (omega arith) in
+    pieces_set w ps id i x h known in' ∙ ap (λ z. set (pieces w ps) id (set z i x)) now ∙ ap (λ z. set z id (set c i x)) e ∙ set_set cs id c (set c i x)
+
+-- two literals come in front of a copy, and another one behind them
+pub pieces_turn : (w : List ℕ) (ps : List Place) (id a b k x start : ℕ) → IsLaid w ps → id < length ps → 1 < (place ps id).len → k < (place ps id).len → start ≡ (place ps id).start
+    → pieces (set (set (set w start a) (start + 1) b) (start + k) x) ps ≡ set (pieces w ps) id (turned (copy (pieces w ps) id) a b k x)
+pieces_turn w ps id a b k x start h known two in' start-is =
+    let p = place ps id in
+    let cs = pieces w ps in
+    let c = copy cs id in
+    let long = pieces_long w ps in
+    let e : start ≡ p.start + 0 = omega arith in
+    let first : pieces (set w (p.start + 0) a) ps ≡ set cs id (set c 0 a) = pieces_set w ps id 0 a h known (omega arith) in
+    let w1 = set w start a in
+    let first' : pieces w1 ps ≡ set cs id (set c 0 a) = ap (λ z. pieces (set w z a) ps) e ∙ first in
+    let laid1 = laid_set w ps start a h in
+    let w2 = set w1 (p.start + 1) b in
+    let second : pieces w2 ps ≡ set cs id (set (set c 0 a) 1 b) = piece_more w1 ps cs (set c 0 a) id 1 b laid1 known long two first' in
+    let laid2 = laid_set w1 ps (p.start + 1) b laid1 in
+    let third = piece_more w2 ps cs (set (set c 0 a) 1 b) id k x laid2 known long in' second in
+    ap (λ z. pieces (set (set w1 (z + 1) b) (z + k) x) ps) start-is ∙ third
 
 -- a place is written
 place_set : (ps : List Place) (id k : ℕ) (p : Place) → k ≢ id → place (set ps id p) k ≡ place ps k

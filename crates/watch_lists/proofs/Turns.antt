@@ -1,18 +1,19 @@
 -- Visits to the watches of a literal.
 use Rattle.std.proofs.Common.{◌≡◌, ◌≢◌, ℕ, ◌+◌, ◌<◌, ◌≤◌, true, false, eqb, List, [], ◌∷◌, ◌++◌, length, get_or, set, take, drop, inl, inr, refl, sym, ap, ◌∙◌, subst, arith, append_assoc, Option}
 use Rattle.std.proofs.lemmas.Bool.{false≢true, or_cases, or_left, or_right}
-use Rattle.sat_terms.specs.Literal.{has, neg}
+use Rattle.sat_terms.specs.Literal.{has, neg, var_of}
 use Rattle.clause_store.specs.Stored.{Stored, slot, slot_lits}
 use Rattle.trail_state.specs.declared.trail.Step.{Step}
 use Rattle.trail_state.specs.Trail.{Trace, step, no_step, true_on}
 use Rattle.watch_lists.specs.declared.lists.Watch.{Watch}
-use Rattle.watch_lists.specs.Propagation.{Grown, TrueAtRoot}
+use Rattle.watch_lists.specs.Propagation.{AllReady, Grown, TrueAtRoot}
 use Rattle.watch_lists.specs.Watching.{Pair, pair, at, put_at, WatchesIt, HoldsPair, Blocks, Kept, TrueIn, Covered, CoverStays}
 use Rattle.watch_lists.specs.Visiting.{OtherOf, AllTrueIn}
 use Rattle.std.proofs.lemmas.List.{get_or-set_same, get_or-set_other, take_more_set, drop-set-lt, drop_more, drop_all, append-nil, get_or_append_left, length-append, get_or_default}
 use Rattle.watch_lists.proofs.Tallies.{watched_known, read_watched, read_blocks, kept_stays}
 use Rattle.watch_lists.proofs.Growing.{grown_none, grown_more}
 use Rattle.watch_lists.proofs.Watched.{other_held}
+use Rattle.watch_lists.proofs.Looks.{declared_at}
 use Rattle.watch_lists.proofs.Moves.{Moving, kept_moves, covers_moves}
 
 -- lists that are closed up from the front
@@ -96,6 +97,9 @@ module _ (ids : List ℕ) (s : List (Option Stored)) (n f : ℕ) (ws : List Watc
 
   pub reads_held : Visiting ids s n f ws ls ps0 ps t0 t i j → i < length ws → w ≡ get_or ws i w → HoldsPair ids w.id (slot s w.id) (length ls) (pair ps w.id)
   reads_held v in' is = rw v.sized (v.kept.held w.id (reads_watched v in' is).differ)
+
+  pub reads_declared : Visiting ids s n f ws ls ps0 ps t0 t i j → i < length ws → w ≡ get_or ws i w → AllReady ids s t0.declared → var_of w.blocker ≤ t.declared
+  reads_declared v in' is ready = rw v.grown.declared (declared_at t0.declared (slot_lits (slot s w.id)) w.blocker (ready w.id (reads_held v in' is).attached).1 (reads_blocks v in' is).holds)
 
   -- the watch stays
   pub visit_stays : (w' : Watch) (t' : Trace) → Visiting ids s n f ws ls ps0 ps t0 t i j → i < length ws → w ≡ get_or ws i w → w'.id ≡ w.id → Blocks (slot_lits (slot s w.id)) f w'

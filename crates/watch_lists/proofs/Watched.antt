@@ -1,23 +1,16 @@
 -- Laws of clauses that watch two literals.
-use Rattle.std.proofs.Common.{◌≡◌, ◌≢◌, ℕ, ◌<◌, Bool, true, false, cond, not, eqb, List, [], ◌∷◌, ◌++◌, length, inl, inr, refl, sym, ap, ◌∙◌, Option, Some, None}
+use Rattle.std.proofs.Common.{◌≡◌, ◌≢◌, ℕ, ◌<◌, Bool, true, false, cond, eqb, List, [], ◌∷◌, ◌++◌, length, inl, inr, refl, sym, ap, ◌∙◌, Option, Some, None}
 use Rattle.std.proofs.lemmas.Bool.{false≢true, cases_Bool, cases_eq, or_left, or_right, eq-eqb}
-use Rattle.sat_terms.specs.Literal.{has, neg, var_of}
-use Rattle.sat_terms.proofs.Literals.{neg-neg, neg-other, var_of-neg}
+use Rattle.sat_terms.specs.Literal.{has, neg}
+use Rattle.sat_terms.proofs.Literals.{neg-neg}
 use Rattle.clause_store.specs.Stored.{Stored, slot_lits}
 use Rattle.trail_state.specs.declared.trail.Step.{Step}
 use Rattle.trail_state.specs.Trail.{step, true_on, value_on, IsTrail}
 use Rattle.trail_state.specs.Clauses.{FalseOn, IsUnit, IsQuiet}
 use Rattle.trail_state.proofs.Places.{place_of_true, true_at_place}
+use Rattle.trail_state.proofs.Values.{not_both}
 use Rattle.watch_lists.specs.Watching.{Pair, WatchesIt, HoldsPair, TrueIn}
 use Rattle.watch_lists.specs.Visiting.{OtherOf, NoNext}
-
--- a literal and its negation are not both true
-pub not_both : (t : List Step) (top l : ℕ) → IsTrail t top → true_on t l ≡ true → true_on t (neg l) ≡ true → ⊥
-not_both t top l shape h m =
-    let a = place_of_true t l h in
-    let b = place_of_true t (neg l) m in
-    let same = shape.apart a.0 b.0 a.1 b.1 (ap var_of a.2 ∙ sym (var_of-neg l) ∙ sym (ap var_of b.2)) in
-    neg-other l (sym b.2 ∙ sym (ap (λ i. (step t i).lit) same) ∙ a.2)
 
 value_some : (a b v : Bool) → cond a (Some true) (cond b (Some false) None) ≡ Some v → v ≡ a
 value_some true b v e = cc
@@ -38,26 +31,17 @@ true_none t l e = sym (value_none (true_on t l) (true_on t (neg l)) e).0
 pub false_none : (t : List Step) (l : ℕ) → value_on t l ≡ None → false ≡ true_on t (neg l)
 false_none t l e = sym (value_none (true_on t l) (true_on t (neg l)) e).1
 
-value_not : (a b v : Bool) → (a ≡ true → b ≡ true → ⊥) → cond a (Some true) (cond b (Some false) None) ≡ Some v → not v ≡ b
-value_not true true v h e = absurd (h refl refl)
-value_not true false v h e = let f : v ≡ true = cc in rw f refl
-value_not false true v h e = let f : v ≡ false = cc in rw f refl
-value_not false false v h e = cc
-
-pub false_some : (t : List Step) (top l : ℕ) (v : Bool) → IsTrail t top → value_on t l ≡ Some v → not v ≡ true_on t (neg l)
-false_some t top l v shape e = value_not (true_on t l) (true_on t (neg l)) v (not_both t top l shape) e
-
 -- a clause with a true literal is quiet
 pub quiet_true_in : (t : List Step) (top : ℕ) (c : List ℕ) → IsTrail t top → TrueIn c t → IsQuiet t c
 quiet_true_in t top c shape h =
     let x = (step t h.place).lit in
     let on : true_on t x ≡ true = true_at_place t h.place x h.within refl in
     record {
-      not_false = λ f. not_both t top x shape on (f x h.holds);
+      not_false = λ f. not_both t x shape.apart on (f x h.holds);
       not_unit = λ l u.
           elim (cases_eq x l) [
             | inl e ↦ false≢true (sym (value_none (true_on t l) (true_on t (neg l)) u.free).0 ∙ rw (← e) on)
-            | inr n ↦ not_both t top x shape on (u.others x h.holds n)
+            | inr n ↦ not_both t x shape.apart on (u.others x h.holds n)
           ];
     }
 

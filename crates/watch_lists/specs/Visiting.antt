@@ -1,6 +1,6 @@
 -- What visits to the watches of a literal do.
 use Rattle.std.specs.Prelude.{◌≡◌, ◌≢◌, ◌⊎◌, ◌<◌, ◌≤◌, ◌++◌, ℕ, Bool, true, false, List, [], ◌∷◌, length, slice_index_or, slice_set, Option}
-use Rattle.sat_terms.specs.Literal.{has, neg}
+use Rattle.sat_terms.specs.Literal.{has, neg, var_of}
 use Rattle.clause_store.specs.Stored.{Stored, slot, slot_lits}
 use Rattle.trail_state.specs.declared.trail.Step.{Step}
 use Rattle.trail_state.specs.Trail.{Trace, step, true_on}
@@ -10,9 +10,9 @@ use Rattle.watch_lists.specs.declared.visits.Settled.{Settled}
 use Rattle.watch_lists.specs.declared.visits.Settled.TheVariants.{Stays, Moves as Moved, False}
 use Rattle.watch_lists.specs.Watching.{Pair, copy, front, pair, at, WatchesIt, Blocks, TrueIn}
 
--- the watch at place `from` stands at place `to`, with this blocker
-abbrev pub IsKept : List Watch → List Watch → ℕ → ℕ → ℕ → Type 0
-IsKept ws ws' to from b = (w : Watch) → w ≡ slice_index_or ws from w → ws' ≡ slice_set ws to (record { id = w.id; blocker = b; binary = w.binary })
+-- the variables of the literals are among the first n
+abbrev pub AllDeclared : ℕ → List ℕ → Type 0
+AllDeclared n c = (l : ℕ) → has c l ≡ true → var_of l ≤ n
 
 -- the literal of the pair that is not f
 abbrev pub OtherOf : Pair → ℕ → ℕ → Type 0

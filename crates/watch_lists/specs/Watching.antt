@@ -27,9 +27,9 @@ pairs cs = map front cs
 abbrev pub pair : List Pair → ℕ → Pair
 pair ps id = slice_index_or ps id (record { first = 0; second = 0 })
 
--- a list with two members exchanged
-abbrev pub swapped : List ℕ → ℕ → ℕ → List ℕ
-swapped c i j = slice_set (slice_set c i (slice_index_or c j 0)) j (slice_index_or c i 0)
+-- a list with these two in front, and another one at place k
+abbrev pub turned : List ℕ → ℕ → ℕ → ℕ → ℕ → List ℕ
+turned c a b k x = slice_set (slice_set (slice_set c 0 a) 1 b) k x
 
 -- the literals of a clause, with two of them in front
 abbrev pub copied : ℕ → ℕ → List ℕ → List ℕ

@@ -4,7 +4,7 @@
 //! the lists have a copy of each clause, in one array of words beside a table of places by id. What is taken out leaves its words
 //! dead until the array is compacted: the live pieces are then copied into a new array, in the order of their ids.
 ghost use Rattle.std.specs.Prelude.{◌≡◌, ◌<◌, ◌≤◌, ◌+◌, ◌^◌, ◌++◌, ◌∷◌, ℕ, [], length, OnOk, OnErr, IsTrue, ◌↔◌, slice_set, slice_index};
-ghost use Rattle.watch_lists.specs.Watching.{copy, swapped, copied};
+ghost use Rattle.watch_lists.specs.Watching.{copy, turned, copied};
 ghost use Rattle.watch_lists.specs.Copying.{piece, pieces, words_of, Lengthens, IsLaid, IsEmptied};
 
 use sat_model::lists::Ids;
@@ -81,18 +81,17 @@ impl Copies {
         &self.words[from..to]
     }
 
-    // Exchanges two literals of a copy.
-    pub(crate) fn swap(&mut self, id: usize, i: usize, j: usize)
+    // Puts these two literals in front of a copy, and another one at a place behind them.
+    pub(crate) fn turn(&mut self, id: usize, first: Lit, second: Lit, k: usize, behind: Lit)
         requires known { id < length self.old }
-        requires one { i < length (copy self.old id) }
-        requires other { j < length (copy self.old id) }
-        ensures { self.new ≡ slice_set self.old id (swapped (copy self.old id) i j) }
+        requires late { 2 ≤ k }
+        requires within { k < length (copy self.old id) }
+        ensures { self.new ≡ slice_set self.old id (turned (copy self.old id) first second k behind) }
     {
         let start = self.places[id].start as usize;
-        let one = self.words[start + i];
-        let other = self.words[start + j];
-        self.words[start + i] = other;
-        self.words[start + j] = one;
+        self.words[start] = first;
+        self.words[start + 1] = second;
+        self.words[start + k] = behind;
     }
 
     // Makes room for the copy of a clause; no copy changes.

@@ -12,7 +12,6 @@ ghost use Rattle.watch_lists.specs.Visiting.{IsConflict};
 ghost use Rattle.watch_lists.specs.Shorts.{AllShort, AllMet};
 
 use crate::marks::Marks;
-use crate::visits::is_true;
 use clause_store::store::Store;
 use sat_model::lists::ClauseId;
 use trail_state::reason::Reason;
@@ -59,7 +58,7 @@ fn is_fixed(id: ClauseId, store: &Store, trail: &Trail) -> bool
         return false;
     };
     let at_root = level == 0;
-    at_root && is_true(trail, lit)
+    at_root && trail.is_true(lit)
 }
 
 // Looks at clauses of fewer than two literals, from those on that are known to be true at the root, and assigns their literals, up

@@ -6,16 +6,17 @@
 //! literal's list, which is not the one being read, since the literal is not false. Where there is none the other watched literal is
 //! implied, or the clause is false; then what was not read yet stays behind what was.
 //!
-//! This is the innermost loop of a search: a watch that stays in its place is not written back, and the trail's value of the
-//! blocker is the only thing that is read for most. The order of visits is MiniSat's (Eén and Sörensson, 2003); that binary
-//! clauses need no look at the clause is in Biere's solvers since PicoSAT (2008).
-ghost use Rattle.std.specs.Prelude.{◌≡◌, ◌≢◌, ◌<◌, ◌≤◌, ◌++◌, ◌&&◌, ◌==◌, ℕ, not, true, false, length, take, drop, OnOk, OnErr, IfOk, MatchOption};
-ghost use Rattle.sat_terms.specs.Literal.{has, neg};
+//! This is the innermost loop of a search: the value of the blocker is looked at in the loop itself and is the only thing that is
+//! read for most watches, and a watch is written back whether it changed or not. The literals of an attached clause are declared, so
+//! that a look at a value is one read of the table. The order of visits is MiniSat's (Eén and Sörensson, 2003); that binary clauses
+//! need no look at the clause is in Biere's solvers since PicoSAT (2008).
+ghost use Rattle.std.specs.Prelude.{◌≡◌, ◌≢◌, ◌<◌, ◌≤◌, ◌++◌, ◌&&◌, ◌==◌, ℕ, not, true, false, length, take, drop, slice_index_or, slice_set, OnOk, OnErr, IfOk, MatchOption};
+ghost use Rattle.sat_terms.specs.Literal.{has, neg, var_of};
 ghost use Rattle.clause_store.specs.Stored.{slot, slot_lits};
 ghost use Rattle.trail_state.specs.Trail.{true_on};
 ghost use Rattle.watch_lists.specs.Propagation.{ids_of, IsReadyAt, AllReady, Grown};
 ghost use Rattle.watch_lists.specs.Watching.{copy, front, pairs, at, put_at, WatchesIt, Blocks, HoldsPair, SameLits, AllCopied, CopiesKeep, Kept, CoverStays, FollowsOn};
-ghost use Rattle.watch_lists.specs.Visiting.{IsKept, OtherOf, IsNextAt, NoneFrom, NoNext, InReach, MovesTo, ConcludedIs, SettledIs, AllTrueIn, IsConflict, IsLeveled, IsPassed, WatchedQuiet};
+ghost use Rattle.watch_lists.specs.Visiting.{AllDeclared, OtherOf, IsNextAt, NoneFrom, NoNext, InReach, MovesTo, ConcludedIs, SettledIs, AllTrueIn, IsConflict, IsLeveled, IsPassed, WatchedQuiet};
 
 use crate::copies::Copies;
 use crate::lists::{Watch, WatchList};
@@ -27,36 +28,17 @@ use sat_model::memory::Memory;
 use trail_state::reason::Reason;
 use trail_state::trail::Trail;
 
-// Whether the literal is true.
-pub(crate) fn is_true(trail: &Trail, lit: Lit) -> bool
-    ensures { result ≡ true_on trail.now.steps lit }
-{
-    match trail.value(lit) {
-        Some(value) => value,
-        None => false,
-    }
-}
-
-// Whether the literal is false.
-pub(crate) fn is_false(trail: &Trail, lit: Lit) -> bool
-    ensures { result ≡ true_on trail.now.steps (neg lit) }
-{
-    trail.law_shape();
-    match trail.value(lit) {
-        Some(value) => !value,
-        None => false,
-    }
-}
-
 // Whether a literal may be watched in place of a false one: it is neither false nor the other one that is watched.
 fn may_watch(trail: &Trail, lit: Lit, other: Lit) -> bool
+    requires { var_of lit ≤ trail.now.declared }
     ensures { result ≡ (not (true_on trail.now.steps (neg lit)) && not (lit == other)) }
 {
-    !is_false(trail, lit) && lit != other
+    !trail.is_false(lit) && lit != other
 }
 
 // The place, from the third on, of a literal of the clause that may be watched.
 fn next_at(trail: &Trail, clause: &[Lit], other: Lit) -> Option<usize>
+    requires { AllDeclared trail.now.declared clause.now }
     ensures { MatchOption result (NoneFrom trail.now.steps clause.now other (length clause.now)) (λ k. IsNextAt trail.now.steps clause.now other k) }
 {
     let mut k = 2;
@@ -94,33 +76,25 @@ fn move_watch(
     id: ClauseId,
     f: Lit,
     other: Lit,
+    next: Lit,
     k: usize,
     lists: &mut [WatchList],
     copies: &mut Copies,
 ) -> Result<(), Memory>
     requires known { id < length copies.old }
     requires one { OtherOf (front (copy copies.old id)) f other }
-    requires differ { (front (copy copies.old id)).first ≢ (front (copy copies.old id)).second }
     requires within { InReach (copy copies.old id) k (length lists.old) }
+    requires next { next ≡ slice_index_or (copy copies.old id) k 0 }
     ensures ok { OnOk result (MovesTo id f other k lists.old lists.new copies.old copies.new) }
     ensures err_lists { OnErr result (lists.new ≡ lists.old) }
     ensures err_copies { OnErr result (copies.new ≡ copies.old) }
 {
-    let at = id.index();
-    let clause = copies.get(at);
-    let first = clause[0];
-    let next = clause[k];
     lists[next.code() as usize].push(Watch {
         id,
         blocker: other,
         binary: false,
     })?;
-    if first == f {
-        copies.swap(at, 0, 1);
-        copies.swap(at, 1, k);
-        return Ok(());
-    }
-    copies.swap(at, 1, k);
+    copies.turn(id.index(), other, next, k, f);
     Ok(())
 }
 
@@ -136,14 +110,14 @@ fn conclude(id: ClauseId, other: Lit, attached: &Marks, store: &Store, trail: &m
 {
     let _ = attached;
     let _ = store;
-    if is_false(trail, other) {
+    if trail.is_false(other) {
         return Settled::False;
     }
     trail.assign(other, Reason::Clause(id));
     Settled::Stays(other)
 }
 
-// Looks at a watch of a literal that is false.
+// Looks at a watch of a literal that is false, where its blocker is not true.
 fn settle(
     id: ClauseId,
     blocker: Lit,
@@ -162,26 +136,25 @@ fn settle(
     requires ready { AllReady (ids_of attached.now) store.now trail.old.declared }
     requires blocks { Blocks (slot_lits (slot store.now id)) f (record { id = id; blocker = blocker; binary = binary }) }
     requires fallen { true_on trail.old.steps (neg f) ≡ true }
+    requires untrue { true_on trail.old.steps blocker ≡ false }
     ensures grown { Grown (ids_of attached.now) store.now trail.old trail.new }
     ensures settled { IfOk result (λ r. SettledIs r id binary f store.now lists.old lists.new copies.old copies.new trail.old trail.new) }
     ensures err_lists { OnErr result (lists.new ≡ lists.old) }
     ensures err_copies { OnErr result (copies.new ≡ copies.old) }
 {
-    if is_true(trail, blocker) {
-        return Ok(Settled::Stays(blocker));
-    }
     if binary {
         let settled = conclude(id, blocker, attached, store, trail);
         return Ok(settled);
     }
     let clause = copies.get(id.index());
     let other = other_of(clause[0], clause[1], f);
-    if is_true(trail, other) {
+    if trail.is_true(other) {
         return Ok(Settled::Stays(other));
     }
     match next_at(trail, clause, other) {
         Some(k) => {
-            move_watch(id, f, other, k, lists, copies)?;
+            let next = clause[k];
+            move_watch(id, f, other, next, k, lists, copies)?;
             Ok(Settled::Moves)
         }
         None => {
@@ -211,20 +184,16 @@ fn close_gap(ws: &mut Vec<Watch>, mut to: usize, mut from: usize)
     ws.truncate(to);
 }
 
-// Keeps the watch at `from` with this blocker, and moves it to `to`. What is there already is not written.
-fn keep(ws: &mut Vec<Watch>, to: usize, from: usize, blocker: Lit)
-    requires closed { to ≤ from }
-    requires within { from < length ws.old.items }
-    ensures { IsKept ws.old.items ws.new.items to from blocker }
+// Puts a watch at a place, whatever is there.
+fn put(ws: &mut Vec<Watch>, at: usize, id: ClauseId, blocker: Lit, binary: bool)
+    requires { at < length ws.old.items }
+    ensures { ws.new.items ≡ slice_set ws.old.items at (record { id = id; blocker = blocker; binary = binary }) }
 {
-    let watch = ws[from];
-    if to < from || watch.blocker != blocker {
-        ws[to] = Watch {
-            id: watch.id,
-            blocker,
-            binary: watch.binary,
-        };
-    }
+    ws[at] = Watch {
+        id,
+        blocker,
+        binary,
+    };
 }
 
 // Visits the watches of a literal that is false, up to the first false clause.
@@ -253,9 +222,17 @@ fn visit(
     let mut i = 0;
     let mut j = 0;
     'each: while i < ws.len() {
-        let id = ws[i].id;
-        let blocker = ws[i].blocker;
-        let binary = ws[i].binary;
+        let Watch {
+            id,
+            blocker,
+            binary,
+        } = ws[i];
+        if trail.is_true(blocker) {
+            put(ws, j, id, blocker, binary);
+            j += 1;
+            i += 1;
+            continue;
+        }
         let settled = match settle(
             id, blocker, binary, f, attached, lists, copies, store, trail,
         ) {
@@ -267,7 +244,7 @@ fn visit(
         };
         match settled {
             Settled::Stays(blocker) => {
-                keep(ws, j, i, blocker);
+                put(ws, j, id, blocker, binary);
                 j += 1;
                 i += 1;
             }

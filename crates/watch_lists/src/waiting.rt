@@ -10,12 +10,22 @@ ghost use Rattle.watch_lists.specs.Watching.{at};
 ghost use Rattle.watch_lists.specs.Placing.{IsLow, IsNoHigher, IsPushed};
 
 use crate::lists::{Watch, WatchList};
-use crate::visits::{is_true, lower};
+use crate::visits::lower;
 use sat_model::lists::ClauseId;
 use sat_model::literal::Lit;
 use sat_model::memory::Memory;
 use std::alloc::Global;
 use trail_state::trail::Trail;
+
+// Whether the literal is true.
+fn is_true(trail: &Trail, lit: Lit) -> bool
+    ensures { result ≡ true_on trail.now.steps lit }
+{
+    match trail.value(lit) {
+        Some(value) => value,
+        None => false,
+    }
+}
 
 // How well a literal is watched: the later it would become false, or became false, the better.
 fn rank(trail: &Trail, lit: Lit) -> u32 {

@@ -1,22 +1,28 @@
 use Rattle.std.proofs.Common.{◌∙◌, get_or, sym, refl}
+use Rattle.std.proofs.lemmas.List.{get_or_default}
 use Rattle.watch_lists.specs.Watching.{copy}
 use Rattle.watch_lists.specs.Visiting.{IsNextAt}
 use Rattle.watch_lists.proofs.Watched.{other_held}
 use Rattle.watch_lists.proofs.Fronts.{none_next}
-use Rattle.watch_lists.proofs.Looks.{stays_met, wide_blocks, concluded, other_here, held_at}
+use Rattle.watch_lists.proofs.Looks.{stays_met, wide_blocks, concluded, other_here, held_at, declared_at, declared_within}
 use Rattle.watch_lists.proofs.visits.settle.Goals as goal
-
-pub returns-then-is_true-clause-settled : goal.returns-then-is_true-clause-settled
-returns-then-is_true-clause-settled c = stays_met _ _ _ _ _ _ c.requires.blocks (sym c.is_true.ensures ∙ c.if-is_true.true)
 
 pub returns-then-binary-clause-settled : goal.returns-then-binary-clause-settled
 returns-then-binary-clause-settled c = concluded _ _ _ _ _ _ _ _ _ _ c.conclude-settled.ensures.concluded c.requires.blocks
 
-pub returns-then-is_true-2-clause-settled : goal.returns-then-is_true-2-clause-settled
-returns-then-is_true-2-clause-settled c =
+pub is_true-requires : goal.is_true-requires
+is_true-requires c =
+    let one = other_here (copy c.args.copies.now c.args.id) _ _ _ c.other_of-other.result c.requires.watched.differ (rw (c.get-clause.ensures, c.index.ensures) at c.index-clause-0.is) (rw (c.get-clause.ensures, c.index.ensures) at c.index-clause-1.is) c.other_of-other.ensures in
+    declared_at _ _ _ (c.requires.ready c.args.id c.requires.held.attached).1 (other_held _ _ _ _ _ _ _ c.requires.held one)
+
+pub next_at-requires : goal.next_at-requires
+next_at-requires c = rw (c.get-clause.ensures, c.index.ensures) (declared_within _ _ _ (c.requires.ready c.args.id c.requires.held.attached).1 c.requires.same)
+
+pub returns-then-is_true-clause-settled : goal.returns-then-is_true-clause-settled
+returns-then-is_true-clause-settled c =
     let one = other_here (copy c.args.copies.now c.args.id) _ _ _ c.other_of-other.result c.requires.watched.differ (rw (c.get-clause.ensures, c.index.ensures) at c.index-clause-0.is) (rw (c.get-clause.ensures, c.index.ensures) at c.index-clause-1.is) c.other_of-other.ensures in
     let holds = other_held _ _ _ _ _ _ _ c.requires.held one in
-    stays_met _ _ _ _ _ _ (wide_blocks _ _ _ _ c.args.binary c.if-binary.false holds) (sym c.is_true-2.ensures ∙ c.if-is_true-2.true)
+    stays_met _ _ _ _ _ _ (wide_blocks _ _ _ _ c.args.binary c.if-binary.false holds) (sym c.is_true.ensures ∙ c.if-is_true.true)
 
 pub move_watch-requires-clause-within : goal.move_watch-requires-clause-within
 move_watch-requires-clause-within c =
@@ -26,6 +32,11 @@ move_watch-requires-clause-within c =
       within = here.within;
       listed = c.requires.held.within (get_or (copy c.args.copies.now c.args.id) c.in-Some.k 0) (held_at (copy c.args.copies.now c.args.id) _ c.in-Some.k c.requires.same here.within);
     }
+
+pub move_watch-requires-clause-next : goal.move_watch-requires-clause-next
+move_watch-requires-clause-next c =
+    let here : IsNextAt c.args.trail.now.steps (copy c.args.copies.now c.args.id) c.other_of-other.result c.in-Some.k = rw (c.get-clause.ensures, c.index.ensures) at c.in-Some.ensures in
+    (rw (c.get-clause.ensures, c.index.ensures) at c.index-clause-k.is) ∙ get_or_default (copy c.args.copies.now c.args.id) c.in-Some.k _ 0 here.within
 
 pub conclude-settled-requires-in-None-clause-none : goal.conclude-settled-requires-in-None-clause-none
 conclude-settled-requires-in-None-clause-none c =

@@ -1,12 +1,11 @@
 use Rattle.std.proofs.Common.{◌≢◌, ◌<◌, length, length-set, refl, sym, ap, ◌∙◌, subst, arith}
-use Rattle.clause_store.specs.Stored.{slot, slot_lits}
-use Rattle.watch_lists.specs.declared.lists.Watch.{Watch}
-use Rattle.watch_lists.specs.Watching.{Pair, pairs, WatchesIt, Blocks}
+use Rattle.watch_lists.specs.Watching.{Pair, pairs, WatchesIt}
 use Rattle.watch_lists.specs.Visiting.{OtherOf}
-use Rattle.watch_lists.proofs.Growing.{grown_more}
+use Rattle.watch_lists.proofs.Growing.{grown_none, grown_more}
+use Rattle.watch_lists.proofs.Watched.{true_in_from}
 use Rattle.watch_lists.proofs.Tallies.{watched_known}
 use Rattle.watch_lists.proofs.Looks.{pair_front, pairs_long, pairs_set, copied_moves, keeps_then, keeps_moved}
-use Rattle.watch_lists.proofs.Turns.{reads_watched, reads_held, reads_blocks, visit_stays, visit_moves, both_read, fallen_grown, covers_more}
+use Rattle.watch_lists.proofs.Turns.{reads_watched, reads_held, reads_blocks, reads_declared, visit_stays, visit_moves, fallen_grown, covers_more}
 use Rattle.watch_lists.proofs.visits.visit.Goals as goal
 
 pub settle-requires-clause-known : goal.settle-requires-clause-known
@@ -35,13 +34,26 @@ settle-requires-clause-same c =
 pub settle-requires-clause-blocks : goal.settle-requires-clause-blocks
 settle-requires-clause-blocks c =
     let in' : c.each.i < length c.each.ws.items = omega arith in
+    reads_blocks _ _ _ _ _ _ _ _ _ _ _ _ c.index.result.now c.each.invariant.visiting in' c.index.ensures
+
+pub is_true-requires : goal.is_true-requires
+is_true-requires c =
+    let in' : c.each.i < length c.each.ws.items = omega arith in
+    reads_declared _ _ _ _ _ _ _ _ _ _ _ _ c.index.result.now c.each.invariant.visiting in' c.index.ensures c.requires.ready
+
+pub each-preserved-then-is_true : goal.each-preserved-then-is_true
+each-preserved-then-is_true c =
+    let in' : c.each.i < length c.each.ws.items = omega arith in
     let w = c.index.result.now in
-    let one = both_read c.each.ws.items c.each.i w c.index-in-each.result.now in' c.index.ensures c.index-in-each.ensures in
-    let other = both_read c.each.ws.items c.each.i w c.index-in-each-2.result.now in' c.index.ensures c.index-in-each-2.ensures in
-    let C = slot_lits (slot c.args.store.now w.id) in
-    subst (λ (z : Watch). Blocks C c.args.f (record { id = w.id; blocker = z.blocker; binary = c.index-in-each-2.result.now.binary })) (sym one)
-    (subst (λ (z : Watch). Blocks C c.args.f (record { id = w.id; blocker = w.blocker; binary = z.binary })) (sym other)
-    (reads_blocks _ _ _ _ _ _ _ _ _ _ _ _ w c.each.invariant.visiting in' c.index.ensures))
+    let v = c.each.invariant.visiting in
+    let blocks = reads_blocks _ _ _ _ _ _ _ _ _ _ _ _ w v in' c.index.ensures in
+    rw c.put.ensures
+    (record {
+      visiting =
+          visit_stays _ _ _ _ _ _ _ _ _ _ _ _ w w _ v in' c.index.ensures refl blocks (true_in_from _ _ _ blocks.holds (sym c.is_true.ensures ∙ c.if-is_true.true)) (grown_none _ _ _) v.fallen;
+      copied = c.each.invariant.copied;
+      keeps = c.each.invariant.keeps;
+    })
 
 pub returns-in-Err-clause-grown : goal.returns-in-Err-clause-grown
 returns-in-Err-clause-grown c = grown_more _ _ _ _ _ c.each.invariant.visiting.grown c.in-Err.ensures.grown
@@ -54,12 +66,10 @@ each-preserved-in-Stays c =
     let in' : c.each.i < length c.each.ws.items = omega arith in
     let st = rw c.in-Stays.is at c.in-Ok.ensures.settled in
     let w = c.index.result.now in
-    let other = both_read c.each.ws.items c.each.i w c.index-in-each-2.result.now in' c.index.ensures c.index-in-each-2.ensures in
-    let blocks = subst (λ (z : Watch). Blocks (slot_lits (slot c.args.store.now w.id)) c.args.f (record { id = w.id; blocker = c.in-Stays.blocker; binary = z.binary })) other st.blocks in
-    rw (st.lists, st.copies, c.keep.ensures w c.index.ensures)
+    rw (st.lists, st.copies, c.put-in-Stays.ensures)
     (record {
       visiting =
-          visit_stays _ _ _ _ _ _ _ _ _ _ _ _ w (record { id = w.id; blocker = c.in-Stays.blocker; binary = w.binary }) _ c.each.invariant.visiting in' c.index.ensures refl blocks st.true_in
+          visit_stays _ _ _ _ _ _ _ _ _ _ _ _ w (record { id = w.id; blocker = c.in-Stays.blocker; binary = w.binary }) _ c.each.invariant.visiting in' c.index.ensures refl st.blocks st.true_in
           c.in-Ok.ensures.grown (fallen_grown _ _ _ _ _ c.in-Ok.ensures.grown c.each.invariant.visiting.fallen);
       copied = c.each.invariant.copied;
       keeps = c.each.invariant.keeps;
