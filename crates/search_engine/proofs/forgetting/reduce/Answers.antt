@@ -7,3 +7,6 @@ forget_all-requires-clause-each c = λ id some. c.law_forgets_little.ensures.eac
 
 pub forget_all-requires-clause-once : goal.forget_all-requires-clause-once
 forget_all-requires-clause-once c = λ id. c.law_forgets_little.ensures.once _ _ _ id c.in_ok-ids.ensures.named
+
+pub returns-clause-keeps : goal.returns-clause-keeps
+returns-clause-keeps c = keeps_more _ _ _ c.forget_all.ensures.keeps c.compact.ensures.keeps
