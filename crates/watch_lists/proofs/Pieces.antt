@@ -1,7 +1,7 @@
 -- Laws of copies that lie in one array.
 use Rattle.std.proofs.Common.{◌≡◌, ◌≢◌, ℕ, suc, zero, ◌+◌, ◌-◌, ◌^◌, ◌<◌, ◌≤◌, List, [], ◌∷◌, ◌++◌, length, length-set, length-append, get_or, set, take, drop, ◌⊎◌, inl, inr, refl, sym, ap, ◌∙◌, subst, arith}
 use Rattle.std.proofs.lemmas.Bool.{cases_eq}
-use Rattle.std.proofs.lemmas.List.{get_or-map, length-map, map-set, ext_get_or, get_or-set_same, get_or-set_other, get_or-take, get_or-drop, take_all, take-append-le, drop-append-le, length-drop, length-take-le, drop-set-lt, drop-set-add, take-set-le, take_more}
+use Rattle.std.proofs.lemmas.List.{get_or-map, length-map, map-set, ext_get_or, get_or-set_same, get_or-set_other, get_or-take, get_or-drop, take_all, drop_all, append-nil, take-append-le, drop-append-le, length-drop, length-take-le, drop-set-lt, drop-set-add, take-set-le, take_more}
 use Rattle.std.proofs.lemmas.List.Sums.{sum_by_push, sum_by-set, sum_by-cons, sum_by-drop_more}
 use Rattle.std.proofs.Math.Seq.{take-set-lt}
 use Rattle.watch_lists.specs.declared.copies.Place.{Place}
@@ -105,6 +105,10 @@ piece_more : (w : List ℕ) (ps : List Place) (cs : List (List ℕ)) (c : List �
 piece_more w ps cs c id i x h known long in' e =
     let now : copy (pieces w ps) id ≡ c = ap (λ z. copy z id) e ∙ get_or-set_same cs id c [] (omega arith) in
     pieces_set w ps id i x h known in' ∙ ap (λ z. set (pieces w ps) id (set z i x)) now ∙ ap (λ z. set z id (set c i x)) e ∙ set_set cs id c (set c i x)
+
+-- an array of which all was lent and written
+pub lent_back : (n : ℕ) (xs w : List ℕ) → n ≡ length w → length xs ≡ length w → take n (xs ++ drop (length xs) w) ≡ xs
+lent_back n xs w all same = ap (λ z. take n (xs ++ z)) (drop_all (length xs) w (omega arith)) ∙ ap (take n) (append-nil xs) ∙ take_all n xs (omega arith)
 
 -- two literals come in front of a copy, and another one behind them
 pub pieces_turn : (w : List ℕ) (ps : List Place) (id a b k x start : ℕ) → IsLaid w ps → id < length ps → 1 < (place ps id).len → k < (place ps id).len → start ≡ (place ps id).start

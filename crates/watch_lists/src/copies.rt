@@ -89,9 +89,10 @@ impl Copies {
         ensures { self.new ≡ slice_set self.old id (turned (copy self.old id) first second k behind) }
     {
         let start = self.places[id].start as usize;
-        self.words[start] = first;
-        self.words[start + 1] = second;
-        self.words[start + k] = behind;
+        let words = self.words.as_mut_slice();
+        words[start] = first;
+        words[start + 1] = second;
+        words[start + k] = behind;
     }
 
     // Makes room for the copy of a clause; no copy changes.

@@ -14,6 +14,7 @@ ghost use Rattle.std.specs.Prelude.{◌≡◌, ◌≢◌, ◌<◌, ◌≤◌, �
 ghost use Rattle.sat_terms.specs.Literal.{has, neg, var_of};
 ghost use Rattle.clause_store.specs.Stored.{slot, slot_lits};
 ghost use Rattle.trail_state.specs.Trail.{true_on};
+ghost use Rattle.watch_lists.specs.declared.lists.Watch.{Watch};
 ghost use Rattle.watch_lists.specs.Propagation.{ids_of, IsReadyAt, AllReady, Grown};
 ghost use Rattle.watch_lists.specs.Watching.{copy, front, pairs, at, put_at, WatchesIt, Blocks, HoldsPair, SameLits, AllCopied, CopiesKeep, Kept, CoverStays, FollowsOn};
 ghost use Rattle.watch_lists.specs.Visiting.{AllDeclared, OtherOf, IsNextAt, NoneFrom, NoNext, InReach, MovesTo, ConcludedIs, SettledIs, AllTrueIn, IsConflict, IsLeveled, IsPassed, WatchedQuiet};
@@ -184,6 +185,16 @@ fn close_gap(ws: &mut Vec<Watch>, mut to: usize, mut from: usize)
     ws.truncate(to);
 }
 
+// Copies a watch to a place that is no later.
+fn copy_down(ws: &mut Vec<Watch>, to: usize, from: usize)
+    requires closed { to ≤ from }
+    requires within { from < length ws.old.items }
+    ensures { (w : Watch) → w ≡ slice_index_or ws.old.items from w → ws.new.items ≡ slice_set ws.old.items to w }
+{
+    let watch = ws[from];
+    ws[to] = watch;
+}
+
 // Puts a watch at a place, whatever is there.
 fn put(ws: &mut Vec<Watch>, at: usize, id: ClauseId, blocker: Lit, binary: bool)
     requires { at < length ws.old.items }
@@ -228,7 +239,7 @@ fn visit(
             binary,
         } = ws[i];
         if trail.is_true(blocker) {
-            put(ws, j, id, blocker, binary);
+            copy_down(ws, j, i);
             j += 1;
             i += 1;
             continue;

@@ -47,7 +47,7 @@ each-preserved-then-is_true c =
     let w = c.index.result.now in
     let v = c.each.invariant.visiting in
     let blocks = reads_blocks _ _ _ _ _ _ _ _ _ _ _ _ w v in' c.index.ensures in
-    rw c.put.ensures
+    rw (c.copy_down.ensures w c.index.ensures)
     (record {
       visiting =
           visit_stays _ _ _ _ _ _ _ _ _ _ _ _ w w _ v in' c.index.ensures refl blocks (true_in_from _ _ _ blocks.holds (sym c.is_true.ensures ∙ c.if-is_true.true)) (grown_none _ _ _) v.fallen;
@@ -66,7 +66,7 @@ each-preserved-in-Stays c =
     let in' : c.each.i < length c.each.ws.items = omega arith in
     let st = rw c.in-Stays.is at c.in-Ok.ensures.settled in
     let w = c.index.result.now in
-    rw (st.lists, st.copies, c.put-in-Stays.ensures)
+    rw (st.lists, st.copies, c.put.ensures)
     (record {
       visiting =
           visit_stays _ _ _ _ _ _ _ _ _ _ _ _ w (record { id = w.id; blocker = c.in-Stays.blocker; binary = w.binary }) _ c.each.invariant.visiting in' c.index.ensures refl st.blocks st.true_in
