@@ -61,6 +61,10 @@ impl WatchList {
         ensures ok { OnOk result (self.new ≡ self.old ++ watch ∷ []) }
         ensures err { OnErr result (self.new ≡ self.old) }
     {
+        // Most literals have few watches: the first block has room for two.
+        if self.watches.is_empty() {
+            self.watches.reserve_exact(2)?;
+        }
         self.watches.push(watch)?;
         Ok(())
     }
