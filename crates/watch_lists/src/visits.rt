@@ -16,7 +16,7 @@ ghost use Rattle.clause_store.specs.Stored.{slot, slot_lits};
 ghost use Rattle.trail_state.specs.Trail.{true_on};
 ghost use Rattle.watch_lists.specs.declared.lists.Watch.{Watch};
 ghost use Rattle.watch_lists.specs.Propagation.{ids_of, IsReadyAt, AllReady, Grown};
-ghost use Rattle.watch_lists.specs.Watching.{copy, front, pairs, at, put_at, WatchesIt, Blocks, HoldsPair, SameLits, AllCopied, CopiesKeep, Kept, CoverStays, FollowsOn};
+ghost use Rattle.watch_lists.specs.Watching.{copy, front, pairs, at, put_at, WatchesIt, Blocks, HoldsPair, IsCopy, AllCopied, CopiesKeep, Kept, CoverStays, FollowsOn};
 ghost use Rattle.watch_lists.specs.Visiting.{AllDeclared, OtherOf, IsNextAt, NoneFrom, NoNext, InReach, MovesTo, ConcludedIs, SettledIs, AllTrueIn, IsConflict, IsLeveled, IsPassed, WatchedQuiet};
 
 use crate::copies::Copies;
@@ -29,22 +29,22 @@ use sat_model::memory::Memory;
 use trail_state::reason::Reason;
 use trail_state::trail::Trail;
 
-// Whether a literal may be watched in place of a false one: it is neither false nor the other one that is watched.
-fn may_watch(trail: &Trail, lit: Lit, other: Lit) -> bool
+// Whether a literal may be watched in place of a false one.
+fn may_watch(trail: &Trail, lit: Lit) -> bool
     requires { var_of lit ≤ trail.now.declared }
-    ensures { result ≡ (not (true_on trail.now.steps (neg lit)) && not (lit == other)) }
+    ensures { result ≡ not (true_on trail.now.steps (neg lit)) }
 {
-    !trail.is_false(lit) && lit != other
+    !trail.is_false(lit)
 }
 
-// The place, from the third on, of a literal of the clause that may be watched.
-fn next_at(trail: &Trail, clause: &[Lit], other: Lit) -> Option<usize>
+// The place, behind the two in front, of a literal of the clause that may be watched.
+fn next_at(trail: &Trail, clause: &[Lit]) -> Option<usize>
     requires { AllDeclared trail.now.declared clause.now }
-    ensures { MatchOption result (NoneFrom trail.now.steps clause.now other (length clause.now)) (λ k. IsNextAt trail.now.steps clause.now other k) }
+    ensures { MatchOption result (NoneFrom trail.now.steps clause.now (length clause.now)) (λ k. IsNextAt trail.now.steps clause.now k) }
 {
     let mut k = 2;
     while k < clause.len() {
-        let found = may_watch(trail, clause[k], other);
+        let found = may_watch(trail, clause[k]);
         if found {
             return Some(k);
         }
@@ -133,7 +133,7 @@ fn settle(
     requires known { id < length copies.old }
     requires watched { WatchesIt (front (copy copies.old id)) f }
     requires held { HoldsPair (ids_of attached.now) id (slot store.now id) (length lists.old) (front (copy copies.old id)) }
-    requires same { SameLits (copy copies.old id) (slot_lits (slot store.now id)) }
+    requires copied { IsCopy (copy copies.old id) (slot_lits (slot store.now id)) }
     requires ready { AllReady (ids_of attached.now) store.now trail.old.declared }
     requires blocks { Blocks (slot_lits (slot store.now id)) f (record { id = id; blocker = blocker; binary = binary }) }
     requires fallen { true_on trail.old.steps (neg f) ≡ true }
@@ -152,7 +152,7 @@ fn settle(
     if trail.is_true(other) {
         return Ok(Settled::Stays(other));
     }
-    match next_at(trail, clause, other) {
+    match next_at(trail, clause) {
         Some(k) => {
             let next = clause[k];
             move_watch(id, f, other, next, k, lists, copies)?;
