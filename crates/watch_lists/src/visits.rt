@@ -2,14 +2,16 @@
 //!
 //! The list is taken out, read once and closed up from the front: a watch whose blocker is true stays as it is; of a binary clause
 //! the blocker says all; else the clause's copy is read. Its first two literals are those that it watches. Where the other one is true it
-//! becomes the blocker. Else the first literal from the third on that is not false is put second, and the watch moves to that
-//! literal's list, which is not the one being read, since the literal is not false. Where there is none the other watched literal is
-//! implied, or the clause is false; then what was not read yet stays behind what was.
+//! becomes the blocker. Else the first literal from the third on that is not false is looked for. Where it is true it becomes the
+//! blocker, and the watch stays, which costs less than a move. Where it has no value it is put second, and the watch moves to its
+//! list, which is not the one being read, since that literal is false. Where there is none the other watched literal is implied, or
+//! the clause is false; then what was not read yet stays behind what was.
 //!
 //! This is the innermost loop of a search: the value of the blocker is looked at in the loop itself and is the only thing that is
 //! read for most watches, and a watch is written back whether it changed or not. The literals of an attached clause are declared, so
-//! that a look at a value is one read of the table. The order of visits is MiniSat's (Eén and Sörensson, 2003); that binary clauses
-//! need no look at the clause is in Biere's solvers since PicoSAT (2008).
+//! that a look at a value is one read of the table. No literal stands in a copy twice, so what stands behind the first two is none
+//! of them. The order of visits is MiniSat's (Eén and Sörensson, 2003); that binary clauses need no look at the clause, and that a watch
+//! stays where it finds a true literal, is in Biere's solvers (PicoSAT, 2008; CaDiCaL, 2017).
 ghost use Rattle.std.specs.Prelude.{◌≡◌, ◌≢◌, ◌<◌, ◌≤◌, ◌++◌, ◌&&◌, ◌==◌, ℕ, not, true, false, length, take, drop, slice_index_or, slice_set, OnOk, OnErr, IfOk, MatchOption};
 ghost use Rattle.sat_terms.specs.Literal.{has, neg, var_of};
 ghost use Rattle.clause_store.specs.Stored.{slot, slot_lits};
@@ -155,6 +157,9 @@ fn settle(
     match next_at(trail, clause) {
         Some(k) => {
             let next = clause[k];
+            if trail.is_true(next) {
+                return Ok(Settled::Stays(next));
+            }
             move_watch(id, f, other, next, k, lists, copies)?;
             Ok(Settled::Moves)
         }

@@ -3,7 +3,7 @@ use Rattle.std.proofs.lemmas.List.{get_or_default}
 use Rattle.watch_lists.specs.Watching.{copy}
 use Rattle.watch_lists.specs.Visiting.{IsNextAt}
 use Rattle.watch_lists.proofs.Watched.{other_held}
-use Rattle.watch_lists.proofs.Fronts.{none_next}
+use Rattle.watch_lists.proofs.Fronts.{none_next, has_here}
 use Rattle.watch_lists.proofs.Once.{once_apart}
 use Rattle.watch_lists.proofs.Looks.{stays_met, wide_blocks, concluded, other_here, held_at, declared_at, declared_within}
 use Rattle.watch_lists.proofs.visits.settle.Goals as goal
@@ -33,6 +33,19 @@ move_watch-requires-clause-within c =
       within = here.within;
       listed = c.requires.held.within (get_or (copy c.args.copies.now c.args.id) c.in-Some.k 0) (held_at (copy c.args.copies.now c.args.id) _ c.in-Some.k c.requires.copied.same here.within);
     }
+
+pub is_true-requires-in-Some : goal.is_true-requires-in-Some
+is_true-requires-in-Some c =
+    let here : IsNextAt c.args.trail.now.steps (copy c.args.copies.now c.args.id) c.in-Some.k = rw (c.get-clause.ensures, c.index.ensures) at c.in-Some.ensures in
+    let next = (rw (c.get-clause.ensures, c.index.ensures) at c.index-clause-k.is) ∙ get_or_default (copy c.args.copies.now c.args.id) c.in-Some.k _ 0 here.within in
+    rw next (declared_within _ _ _ (c.requires.ready c.args.id c.requires.held.attached).1 c.requires.copied.same _ (has_here (copy c.args.copies.now c.args.id) c.in-Some.k _ here.within refl))
+
+pub returns-then-is_true-2-clause-settled : goal.returns-then-is_true-2-clause-settled
+returns-then-is_true-2-clause-settled c =
+    let here : IsNextAt c.args.trail.now.steps (copy c.args.copies.now c.args.id) c.in-Some.k = rw (c.get-clause.ensures, c.index.ensures) at c.in-Some.ensures in
+    let next = (rw (c.get-clause.ensures, c.index.ensures) at c.index-clause-k.is) ∙ get_or_default (copy c.args.copies.now c.args.id) c.in-Some.k _ 0 here.within in
+    let holds = held_at (copy c.args.copies.now c.args.id) _ c.in-Some.k c.requires.copied.same here.within in
+    stays_met _ _ _ _ _ _ (wide_blocks _ _ _ _ c.args.binary c.if-binary.false (rw next holds)) (sym c.is_true-in-Some.ensures ∙ c.if-is_true-2.true)
 
 pub move_watch-requires-clause-next : goal.move_watch-requires-clause-next
 move_watch-requires-clause-next c =
