@@ -10,7 +10,7 @@ use Rattle.trail_state.specs.Trail.{Trace, step}
 use Rattle.watch_lists.specs.declared.lists.Watch.{Watch}
 use Rattle.watch_lists.specs.Placing.{without, IsTakenOut}
 use Rattle.watch_lists.specs.Propagation.{Watching, Stands, Fits, Follows}
-use Rattle.watch_lists.specs.Watching.{Pair, copy, front, pairs, pair, at, tally, expects, WatchesIt, HoldsPair, AllBlock, Kept, FollowsOn}
+use Rattle.watch_lists.specs.Watching.{Pair, copy, front, pairs, pair, at, tally, expects, WatchesIt, HoldsPair, AllBlock, Kept, FollowsOn, IsCopy}
 use Rattle.watch_lists.proofs.Tallies.{expects_none}
 use Rattle.watch_lists.proofs.Moves.{pair_new, pair_old}
 use Rattle.watch_lists.proofs.Fronts.{front_read}
@@ -167,10 +167,10 @@ module _ (ids ids' waiting waiting' short : List ℕ) (ls ls1 ls2 : List (List W
     pub fits_taken : Fits ids' waiting' short ls2 (set cs id []) s
     fits_taken = record {
       kept = kept_taken;
-      copied = λ k m l.
+      copied = λ k m.
           elim (cases_eq k id) [
             | inl e ↦ absurd (m (let z = ap (copy (set cs id [])) e ∙ copy_here in ap (λ c. (front c).first) z ∙ sym (ap (λ c. (front c).second) z)))
-            | inr n ↦ ap (λ z. has z l) (copy_there k n) ∙ f.copied k (subst (λ c. (front c).first ≢ (front c).second) (copy_there k n) m) l
+            | inr n ↦ subst (λ z. IsCopy z (slot_lits (slot s k))) (sym (copy_there k n)) (f.copied k (subst (λ c. (front c).first ≢ (front c).second) (copy_there k n) m))
           ];
       bare = λ k.
           elim (cases_eq k id) [

@@ -6,7 +6,7 @@ use Rattle.clause_store.specs.Stored.{Stored, slot, slot_lits}
 use Rattle.trail_state.specs.declared.trail.Step.{Step}
 use Rattle.trail_state.specs.Trail.{Trace, step, no_step, IsBack}
 use Rattle.watch_lists.specs.declared.lists.Watch.{Watch}
-use Rattle.watch_lists.specs.Watching.{Pair, copy, front, pairs, pair, at, tally, expects, WatchesIt, HoldsPair, Blocks, AllBlock, Kept, TrueIn, Covered, FollowsOn}
+use Rattle.watch_lists.specs.Watching.{Pair, copy, front, pairs, pair, at, tally, expects, WatchesIt, HoldsPair, Blocks, AllBlock, Kept, TrueIn, Covered, FollowsOn, IsCopy}
 use Rattle.std.proofs.lemmas.List.{take_all, get_or_past, get_or_append_left, length-append}
 use Rattle.sat_terms.proofs.Members.{has_more, has_taken}
 use Rattle.watch_lists.specs.Propagation.{Watching, Stands, Fits, TrueAtRoot, AllFixed, Follows}
@@ -66,7 +66,7 @@ kept_stored ids s s' n ls ps same k = record {
 pub fits_stored : (ids waiting short : List ℕ) (ls : List (List Watch)) (cs : List (List ℕ)) (s s' : List (Option Stored)) → ((id : ℕ) → has ids id ≡ true → slot s' id ≡ slot s id) → Fits ids waiting short ls cs s → Fits ids waiting short ls cs s'
 fits_stored ids waiting short ls cs s s' same f = record {
   kept = kept_stored ids s s' (length ls) (at ls) (pairs cs) same f.kept;
-  copied = λ id n l. f.copied id n l ∙ ap (λ z. has (slot_lits z) l) (sym (same id (f.kept.held id (subst (λ (p : Pair). p.first ≢ p.second) (sym (pair_front cs id)) n)).attached));
+  copied = λ id n. subst (λ z. IsCopy (copy cs id) (slot_lits z)) (sym (same id (f.kept.held id (subst (λ (p : Pair). p.first ≢ p.second) (sym (pair_front cs id)) n)).attached)) (f.copied id n);
   bare = f.bare;
   waits = f.waits;
   shorts = λ id h. let g = f.shorts id h in (g.0, subst (λ z. length (slot_lits z) < 2) (sym (same id g.0)) g.1);
@@ -196,7 +196,7 @@ kept_like ids s n n' A B ps ps' le same none like k = record {
 pub fits_like : (ids waiting short : List ℕ) (ls ls' : List (List Watch)) (cs cs' : List (List ℕ)) (s : List (Option Stored)) → length ls ≤ length ls' → ((l : ℕ) → at ls' l ≡ at ls l) → ((id : ℕ) → copy cs' id ≡ copy cs id) → Fits ids waiting short ls cs s → Fits ids waiting short ls' cs' s
 fits_like ids waiting short ls ls' cs cs' s le same like f = record {
   kept = kept_like ids s (length ls) (length ls') (at ls) (at ls') (pairs cs) (pairs cs') le same (λ l ge. get_or_past ls l [] ge) (λ id. pair_front cs' id ∙ ap front (like id) ∙ sym (pair_front cs id)) f.kept;
-  copied = λ id n l. ap (λ c. has c l) (like id) ∙ f.copied id (subst (λ c. (front c).first ≢ (front c).second) (like id) n) l;
+  copied = λ id n. subst (λ z. IsCopy z (slot_lits (slot s id))) (sym (like id)) (f.copied id (subst (λ c. (front c).first ≢ (front c).second) (like id) n));
   bare = λ id. elim (f.bare id) [ inl e ↦ inl (like id ∙ e) | inr n ↦ inr (subst (λ c. (front c).first ≢ (front c).second) (sym (like id)) n) ];
   waits = f.waits;
   shorts = f.shorts;

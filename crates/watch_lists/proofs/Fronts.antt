@@ -57,9 +57,9 @@ has_turned (p ∷ q ∷ c) a b (suc (suc k)) x l late in' one is =
     ]
 
 -- where the other literals of the copy are false, so are those of the clause
-pub none_next : (t : List Step) (c d : List ℕ) (f o : ℕ) → OtherOf (front c) f o → (front c).first ≢ (front c).second → true_on t (neg f) ≡ true → NoneFrom t c o (length c) → SameLits c d → NoNext t d o
+pub none_next : (t : List Step) (c d : List ℕ) (f o : ℕ) → OtherOf (front c) f o → (front c).first ≢ (front c).second → true_on t (neg f) ≡ true → NoneFrom t c (length c) → SameLits c d → NoNext t d o
 none_next t c d f o one differ fallen none same l h n = go c one differ none (same l ∙ h) where
-  go : (c : List ℕ) → OtherOf (front c) f o → (front c).first ≢ (front c).second → NoneFrom t c o (length c) → has c l ≡ true → true_on t (neg l) ≡ true
+  go : (c : List ℕ) → OtherOf (front c) f o → (front c).first ≢ (front c).second → NoneFrom t c (length c) → has c l ≡ true → true_on t (neg l) ≡ true
   go [] one differ none h = absurd (differ refl)
   go (a ∷ []) one differ none h = absurd (differ refl)
   go (a ∷ b ∷ c) one differ none h =
@@ -69,13 +69,13 @@ none_next t c d f o one differ fallen none same l h n = go c one differ none (sa
       at : (k : ℕ) → k < length (a ∷ b ∷ c) → get_or (a ∷ b ∷ c) k 0 ≡ l → true_on t (neg l) ≡ true
       at zero in' is = elim one [ inl e ↦ rw (sym is ∙ e.0) fallen | inr e ↦ absurd (n (sym is ∙ e.1)) ]
       at (suc zero) in' is = elim one [ inl e ↦ absurd (n (sym is ∙ e.1)) | inr e ↦ rw (sym is ∙ e.0) fallen ]
-      at (suc (suc k)) in' is = rw is at (none (suc (suc k)) (omega arith) in' in' (λ q. n (sym is ∙ q)))
+      at (suc (suc k)) in' is = rw is at (none (suc (suc k)) (omega arith) in' in')
 
 -- a clause with two of its literals in front
 abbrev pub others : ℕ → ℕ → List ℕ → List ℕ
 others a b c = filter (λ x. not (eqb x a) && not (eqb x b)) c
 
-rest_has : (a b l : ℕ) (c : List ℕ) → has (others a b c) l ≡ true → has c l ≡ true
+pub rest_has : (a b l : ℕ) (c : List ℕ) → has (others a b c) l ≡ true → has c l ≡ true
 rest_has a b l [] h = h
 rest_has a b l (x ∷ c) h = go (not (eqb x a) && not (eqb x b)) refl (λ k. rest_has a b l c k) h where
   go : (p : Bool) → (not (eqb x a) && not (eqb x b)) ≡ p → (has (others a b c) l ≡ true → has c l ≡ true) → has (others a b (x ∷ c)) l ≡ true → has (x ∷ c) l ≡ true

@@ -7,6 +7,7 @@ pub mod Turns
 pub mod Runs
 pub mod Pieces
 pub mod Fronts
+pub mod Once
 pub mod Looks
 pub mod Lows
 pub mod Shortages

@@ -11,41 +11,33 @@ use Rattle.trail_state.specs.Trail.{Trace, true_on}
 use Rattle.watch_lists.specs.declared.lists.Watch.{Watch}
 use Rattle.watch_lists.specs.declared.visits.Settled.{Settled}
 use Rattle.watch_lists.specs.declared.visits.Settled.TheVariants.{Stays, Moves as Moved, False}
-use Rattle.watch_lists.specs.Watching.{Pair, copy, front, pairs, pair, at, turned, Blocks, SameLits, AllCopied, CopiesKeep}
+use Rattle.watch_lists.specs.Watching.{Pair, copy, front, pairs, pair, at, turned, Blocks, SameLits, IsOnce, IsCopy, AllCopied, CopiesKeep}
 use Rattle.watch_lists.specs.Visiting.{AllDeclared, OtherOf, IsNextAt, NoneFrom, MovesTo, ConcludedIs, Stayed, SettledIs}
 use Rattle.watch_lists.proofs.Fronts.{has_turned, front_turned, two_long, has_here, front_read}
+use Rattle.watch_lists.proofs.Once.{once_turned}
 use Rattle.watch_lists.proofs.Watched.{true_in_from}
 
 -- a literal that may be watched, as the code reads it
-both_not : (x y : Bool) → (not x && not y) ≡ true → (x ≡ false) × (y ≡ false)
-both_not true y e = absurd (false≢true e)
-both_not false true e = absurd (false≢true e)
-both_not false false e = (refl, refl)
+not_true : (x : Bool) → not x ≡ true → x ≡ false
+not_true true e = absurd (false≢true e)
+not_true false e = refl
 
-one_so : (x : Bool) → (not x && true) ≡ false → x ≡ true
-one_so true e = refl
-one_so false e = absurd (false≢true (sym e))
+not_false : (x : Bool) → not x ≡ false → x ≡ true
+not_false true e = refl
+not_false false e = absurd (false≢true (sym e))
 
-pub next_found : (t : List Step) (c : List ℕ) (other k lit : ℕ) (b : Bool) → 2 ≤ k → k < length c → lit ≡ get_or c k lit → b ≡ (not (true_on t (neg lit)) && not (eqb lit other)) → b ≡ true → IsNextAt t c other k
-next_found t c other k lit b late in' is said yes' =
+pub next_found : (t : List Step) (c : List ℕ) (k lit : ℕ) (b : Bool) → 2 ≤ k → k < length c → lit ≡ get_or c k lit → b ≡ not (true_on t (neg lit)) → b ≡ true → IsNextAt t c k
+next_found t c k lit b late in' is said yes' =
     let here : get_or c k 0 ≡ lit = sym (is ∙ get_or_default c k lit 0 in') in
-    let both = both_not (true_on t (neg lit)) (eqb lit other) (sym said ∙ yes') in
-    record {
-      late = late;
-      within = in';
-      apart = λ q. false≢true (sym both.1 ∙ eq-eqb lit other (sym here ∙ q));
-      open_yet = ap (λ z. true_on t (neg z)) here ∙ both.0;
-    }
+    record { late = late; within = in'; open_yet = ap (λ z. true_on t (neg z)) here ∙ not_true (true_on t (neg lit)) (sym said ∙ yes') }
 
-pub none_more : (t : List Step) (c : List ℕ) (other k lit : ℕ) (b : Bool) → k < length c → lit ≡ get_or c k lit → b ≡ (not (true_on t (neg lit)) && not (eqb lit other)) → b ≡ false → NoneFrom t c other k → NoneFrom t c other (k + 1)
-none_more t c other k lit b in' is said no' before j late lt within n =
+pub none_more : (t : List Step) (c : List ℕ) (k lit : ℕ) (b : Bool) → k < length c → lit ≡ get_or c k lit → b ≡ not (true_on t (neg lit)) → b ≡ false → NoneFrom t c k → NoneFrom t c (k + 1)
+none_more t c k lit b in' is said no' before j late lt within =
     elim (cases_eq j k) [
       | inl e ↦
           let here : get_or c j 0 ≡ lit = ap (λ z. get_or c z 0) e ∙ sym (is ∙ get_or_default c k lit 0 in') in
-          let off : eqb lit other ≡ false = ne_eqb lit other (λ q. n (here ∙ q)) in
-          let so : (not (true_on t (neg lit)) && true) ≡ false = ap (λ z. not (true_on t (neg lit)) && not z) (sym off) ∙ sym said ∙ no' in
-          ap (λ z. true_on t (neg z)) here ∙ one_so (true_on t (neg lit)) so
-      | inr m ↦ before j late (omega arith) within n
+          ap (λ z. true_on t (neg z)) here ∙ not_false (true_on t (neg lit)) (sym said ∙ no')
+      | inr m ↦ before j late (omega arith) within
     ]
 
 -- pairs and copies
@@ -74,6 +66,7 @@ moves id f other k next code ls ls' cs cs' d new one late within listed next-is 
   copies = copies-is;
   fronted = front_turned (copy cs id) other next k f late within ∙ ap (λ z. record { first = other; second = z }) next-is;
   same = λ l. has_turned (copy cs id) other next k f l late within one (sym next-is);
+  once = once_turned (copy cs id) other next k f late within one (sym next-is);
 }
 
 -- what became of a watch
@@ -90,15 +83,18 @@ concluded Moved id f other b s ls cs t t' h blocks = absurd h
 concluded False id f other b s ls cs t t' h blocks = record { lists = refl; copies = refl; all_false = h }
 
 -- the copies after a move
-pub copied_moves : (s : List (Option Stored)) (cs cs' : List (List ℕ)) (id : ℕ) (now : List ℕ) → id < length cs → AllCopied s cs → (front (copy cs id)).first ≢ (front (copy cs id)).second → cs' ≡ set cs id now → ((l : ℕ) → has now l ≡ has (copy cs id) l) → AllCopied s cs'
-copied_moves s cs cs' id now known all differ e same k n l =
+pub copied_moves : (s : List (Option Stored)) (cs cs' : List (List ℕ)) (id : ℕ) (now : List ℕ) → id < length cs → AllCopied s cs → (front (copy cs id)).first ≢ (front (copy cs id)).second → cs' ≡ set cs id now
+    → ((l : ℕ) → has now l ≡ has (copy cs id) l) → (IsOnce (copy cs id) → IsOnce now) → AllCopied s cs'
+copied_moves s cs cs' id now known all differ e same once k n =
     elim (cases_eq k id) [
       | inl q ↦
           let here : copy cs' k ≡ now = ap (copy cs') q ∙ ap (λ z. copy z id) e ∙ get_or-set_same cs id now [] known in
-          ap (λ z. has z l) here ∙ same l ∙ all id differ l ∙ ap (λ z. has (slot_lits (slot s z)) l) (sym q)
+          let old = all id differ in
+          let new : IsCopy now (slot_lits (slot s id)) = record { same = λ l. same l ∙ old.same l; once = once old.once } in
+          subst (λ z. IsCopy z (slot_lits (slot s k))) (sym here) (subst (λ z. IsCopy now (slot_lits (slot s z))) (sym q) new)
       | inr m ↦
           let there : copy cs' k ≡ copy cs k = ap (λ z. copy z k) e ∙ get_or-set_other cs id k now [] m in
-          ap (λ z. has z l) there ∙ all k (subst (λ z. (front z).first ≢ (front z).second) there n) l
+          subst (λ z. IsCopy z (slot_lits (slot s k))) (sym there) (all k (subst (λ z. (front z).first ≢ (front z).second) there n))
     ]
 
 -- the other literal, as the code reads the copy

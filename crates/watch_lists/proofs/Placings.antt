@@ -11,9 +11,10 @@ use Rattle.trail_state.specs.Trail.{Trace, step}
 use Rattle.watch_lists.specs.declared.lists.Watch.{Watch}
 use Rattle.watch_lists.specs.Placing.{IsLow, IsTrueBy, IsPushed, with_watch}
 use Rattle.watch_lists.specs.Propagation.{Watching, Stands, Fits, Follows}
-use Rattle.watch_lists.specs.Watching.{Pair, copy, front, pairs, pair, at, copied, Kept, Covered, FollowsOn}
+use Rattle.watch_lists.specs.Watching.{Pair, copy, front, pairs, pair, at, copied, Kept, Covered, FollowsOn, IsCopy}
 use Rattle.watch_lists.proofs.Attaching.{Attaching, kept_attached, follows_attached}
 use Rattle.watch_lists.proofs.Fronts.{has_copied, has_here, two_long}
+use Rattle.watch_lists.proofs.Once.{once_copied, once_rising}
 use Rattle.watch_lists.proofs.Looks.{pair_front, pairs_long, pairs_set}
 use Rattle.sat_terms.proofs.Members.{has_place}
 
@@ -110,10 +111,12 @@ module _ (ids waiting short : List ℕ) (ls ls' : List (List Watch)) (cs : List 
   pub fits_placed : Fits ids waiting short ls' (set cs id (copied a b c)) s
   fits_placed = record {
     kept = subst (λ z. Kept ids s z (at ls') (pairs (set cs id (copied a b c)))) (sym placed_long) (subst (Kept ids s (length ls) (at ls')) (sym pairs_now) (kept_attached ids s (length ls) (at ls) (at ls') (pairs cs) id new_pair bin attaching f.kept));
-    copied = λ k n l.
+    copied = λ k n.
         elim (cases_eq k id) [
-          | inl e ↦ ap (λ z. has (copy (set cs id (copied a b c)) z) l) e ∙ ap (λ z. has z l) copy_now ∙ has_copied a b c l has_a has_b ∙ ap (λ z. has (slot_lits (slot s z)) l) (sym e)
-          | inr m ↦ ap (λ z. has z l) (copy_other k m) ∙ f.copied k (subst (λ z. (front z).first ≢ (front z).second) (copy_other k m) n) l
+          | inl e ↦
+              let new : IsCopy (copied a b c) c = record { same = λ l. has_copied a b c l has_a has_b; once = once_copied a b c differ (once_rising c rising) } in
+              subst (λ z. IsCopy (copy (set cs id (copied a b c)) z) (slot_lits (slot s z))) (sym e) (subst (λ z. IsCopy z c) (sym copy_now) new)
+          | inr m ↦ subst (λ z. IsCopy z (slot_lits (slot s k))) (sym (copy_other k m)) (f.copied k (subst (λ z. (front z).first ≢ (front z).second) (copy_other k m) n))
         ];
     bare = λ k.
         elim (cases_eq k id) [

@@ -13,7 +13,7 @@ use Rattle.watch_lists.specs.declared.lists.Watch.{Watch}
 use Rattle.watch_lists.specs.Copying.{IsEmptied}
 use Rattle.watch_lists.specs.Placing.{IsSwept}
 use Rattle.watch_lists.specs.Propagation.{Watching, Stands, Fits, Follows, marked}
-use Rattle.watch_lists.specs.Watching.{Pair, copy, front, pairs, pair, at, tally, expects, WatchesIt, HoldsPair, AllBlock, Kept, FollowsOn}
+use Rattle.watch_lists.specs.Watching.{Pair, copy, front, pairs, pair, at, tally, expects, WatchesIt, HoldsPair, AllBlock, Kept, FollowsOn, IsCopy}
 use Rattle.watch_lists.proofs.Looks.{pair_front}
 
 and_both : (a b : Bool) → a ≡ true → b ≡ true → (a && b) ≡ true
@@ -179,7 +179,7 @@ module _ (ids ids' gone waiting waiting' short short' : List ℕ) (ls ls' : List
   pub fits_swept : Fits ids' waiting' short' ls' cs' s
   fits_swept = record {
     kept = kept_swept;
-    copied = λ k m l. let g = other k m in ap (λ z. has z l) (emptied.kept k g) ∙ f.copied k (subst (λ c. (front c).first ≢ (front c).second) (emptied.kept k g) m) l;
+    copied = λ k m. let g = other k m in subst (λ z. IsCopy z (slot_lits (slot s k))) (sym (emptied.kept k g)) (f.copied k (subst (λ c. (front c).first ≢ (front c).second) (emptied.kept k g) m));
     bare = λ k.
         elim (cases_Bool (has gone k)) [
           | inl e ↦ inl (emptied.gone k e)

@@ -8,7 +8,7 @@ use Rattle.trail_state.specs.Clauses.{FalseOn, IsQuiet}
 use Rattle.watch_lists.specs.declared.lists.Watch.{Watch}
 use Rattle.watch_lists.specs.declared.visits.Settled.{Settled}
 use Rattle.watch_lists.specs.declared.visits.Settled.TheVariants.{Stays, Moves as Moved, False}
-use Rattle.watch_lists.specs.Watching.{Pair, copy, front, pair, at, WatchesIt, Blocks, TrueIn}
+use Rattle.watch_lists.specs.Watching.{Pair, copy, front, pair, at, WatchesIt, Blocks, IsOnce, TrueIn}
 
 -- the variables of the literals are among the first n
 abbrev pub AllDeclared : ℕ → List ℕ → Type 0
@@ -18,16 +18,15 @@ AllDeclared n c = (l : ℕ) → has c l ≡ true → var_of l ≤ n
 abbrev pub OtherOf : Pair → ℕ → ℕ → Type 0
 OtherOf p f o = ((p.first ≡ f) × (p.second ≡ o)) ⊎ ((p.second ≡ f) × (p.first ≡ o))
 
--- The literal at place k may be watched in place of a false one: it is neither false nor the other one.
-pub record IsNextAt (t : List Step) (c : List ℕ) (other k : ℕ) : Type 0 where
+-- the literal at place k, behind the two in front, is not false
+pub record IsNextAt (t : List Step) (c : List ℕ) (k : ℕ) : Type 0 where
   pub late : 2 ≤ k
   pub within : k < length c
-  pub apart : slice_index_or c k 0 ≢ other
   pub open_yet : true_on t (neg (slice_index_or c k 0)) ≡ false
 
--- all literals of the clause from the third on but that one are false
-abbrev pub NoneFrom : List Step → List ℕ → ℕ → ℕ → Type 0
-NoneFrom t c other m = (k : ℕ) → 2 ≤ k → k < m → k < length c → slice_index_or c k 0 ≢ other → true_on t (neg (slice_index_or c k 0)) ≡ true
+-- all literals of the clause from the third on, and before place m, are false
+abbrev pub NoneFrom : List Step → List ℕ → ℕ → Type 0
+NoneFrom t c m = (k : ℕ) → 2 ≤ k → k < m → k < length c → true_on t (neg (slice_index_or c k 0)) ≡ true
 
 -- all literals of the clause but that one are false
 abbrev pub NoNext : List Step → List ℕ → ℕ → Type 0
@@ -46,6 +45,7 @@ pub record MovesTo (id f other k : ℕ) (ls ls' : List (List Watch)) (cs cs' : L
   pub copies : cs' ≡ slice_set cs id now
   pub fronted : front now ≡ record { first = other; second = slice_index_or (copy cs id) k 0 }
   pub same : (l : ℕ) → has now l ≡ has (copy cs id) l
+  pub once : IsOnce (copy cs id) → IsOnce now
 
 -- how the look at a clause ends whose literals but one are false
 abbrev pub ConcludedIs : Settled → ℕ → List ℕ → List Step → Type 0
@@ -73,6 +73,7 @@ pub record MovedOn (id f : ℕ) (c : List ℕ) (ls ls' : List (List Watch)) (cs 
   pub copies : cs' ≡ slice_set cs id now
   pub fronted : front now ≡ record { first = other; second = next }
   pub same : (l : ℕ) → has now l ≡ has (copy cs id) l
+  pub once : IsOnce (copy cs id) → IsOnce now
 
 -- the look found every literal false
 pub record FoundFalse (c : List ℕ) (ls ls' : List (List Watch)) (cs cs' : List (List ℕ)) (t : List Step) : Type 0 where

@@ -1,5 +1,5 @@
 -- Lists of watches: which clauses watch which literals, and how the lists follow a trail.
-use Rattle.std.specs.Prelude.{◌≡◌, ◌≢◌, ◌⊎◌, ◌<◌, ◌≤◌, ◌+◌, ◌==◌, ◌&&◌, ℕ, true, not, if◌then◌else◌, List, [], ◌∷◌, length, map, filter, slice_index_or, slice_set, Option}
+use Rattle.std.specs.Prelude.{◌≡◌, ◌≢◌, ◌⊎◌, ◌<◌, ◌≤◌, ◌+◌, ◌==◌, ◌&&◌, ℕ, true, false, not, if◌then◌else◌, List, [], ◌∷◌, length, map, filter, slice_index_or, slice_set, Option}
 use Rattle.sat_terms.specs.Literal.{has, neg}
 use Rattle.clause_store.specs.Stored.{Stored, slot, slot_lits}
 use Rattle.trail_state.specs.declared.trail.Step.{Step}
@@ -79,9 +79,19 @@ pub record Kept (ids : List ℕ) (s : List (Option Stored)) (n : ℕ) (lists : �
 abbrev pub SameLits : List ℕ → List ℕ → Type 0
 SameLits c d = (l : ℕ) → has c l ≡ has d l
 
+-- no literal stands twice
+abbrev pub IsOnce : List ℕ → Type 0
+IsOnce [] = Unit {0}
+IsOnce (l ∷ c) = (has c l ≡ false) × IsOnce c
+
+-- the literals of a clause, each once, in any order
+pub record IsCopy (c d : List ℕ) : Type 0 where
+  pub same : SameLits c d
+  pub once : IsOnce c
+
 -- the copy of each clause that watches has the clause's literals
 abbrev pub AllCopied : List (Option Stored) → List (List ℕ) → Type 0
-AllCopied s cs = (id : ℕ) → (front (copy cs id)).first ≢ (front (copy cs id)).second → SameLits (copy cs id) (slot_lits (slot s id))
+AllCopied s cs = (id : ℕ) → (front (copy cs id)).first ≢ (front (copy cs id)).second → IsCopy (copy cs id) (slot_lits (slot s id))
 
 -- Where there was no copy there is none, and a clause that watched two literals does so.
 pub record CopiesKeep (cs cs' : List (List ℕ)) : Type 0 where

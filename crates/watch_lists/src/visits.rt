@@ -2,21 +2,23 @@
 //!
 //! The list is taken out, read once and closed up from the front: a watch whose blocker is true stays as it is; of a binary clause
 //! the blocker says all; else the clause's copy is read. Its first two literals are those that it watches. Where the other one is true it
-//! becomes the blocker. Else the first literal from the third on that is not false is put second, and the watch moves to that
-//! literal's list, which is not the one being read, since the literal is not false. Where there is none the other watched literal is
-//! implied, or the clause is false; then what was not read yet stays behind what was.
+//! becomes the blocker. Else the first literal from the third on that is not false is looked for. Where it is true it becomes the
+//! blocker, and the watch stays, which costs less than a move. Where it has no value it is put second, and the watch moves to its
+//! list, which is not the one being read, since that literal is false. Where there is none the other watched literal is implied, or
+//! the clause is false; then what was not read yet stays behind what was.
 //!
 //! This is the innermost loop of a search: the value of the blocker is looked at in the loop itself and is the only thing that is
 //! read for most watches, and a watch is written back whether it changed or not. The literals of an attached clause are declared, so
-//! that a look at a value is one read of the table. The order of visits is MiniSat's (Eén and Sörensson, 2003); that binary clauses
-//! need no look at the clause is in Biere's solvers since PicoSAT (2008).
+//! that a look at a value is one read of the table. No literal stands in a copy twice, so what stands behind the first two is none
+//! of them. The order of visits is MiniSat's (Eén and Sörensson, 2003); that binary clauses need no look at the clause, and that a watch
+//! stays where it finds a true literal, is in Biere's solvers (PicoSAT, 2008; CaDiCaL, 2017).
 ghost use Rattle.std.specs.Prelude.{◌≡◌, ◌≢◌, ◌<◌, ◌≤◌, ◌++◌, ◌&&◌, ◌==◌, ℕ, not, true, false, length, take, drop, slice_index_or, slice_set, OnOk, OnErr, IfOk, MatchOption};
 ghost use Rattle.sat_terms.specs.Literal.{has, neg, var_of};
 ghost use Rattle.clause_store.specs.Stored.{slot, slot_lits};
 ghost use Rattle.trail_state.specs.Trail.{true_on};
 ghost use Rattle.watch_lists.specs.declared.lists.Watch.{Watch};
 ghost use Rattle.watch_lists.specs.Propagation.{ids_of, IsReadyAt, AllReady, Grown};
-ghost use Rattle.watch_lists.specs.Watching.{copy, front, pairs, at, put_at, WatchesIt, Blocks, HoldsPair, SameLits, AllCopied, CopiesKeep, Kept, CoverStays, FollowsOn};
+ghost use Rattle.watch_lists.specs.Watching.{copy, front, pairs, at, put_at, WatchesIt, Blocks, HoldsPair, IsCopy, AllCopied, CopiesKeep, Kept, CoverStays, FollowsOn};
 ghost use Rattle.watch_lists.specs.Visiting.{AllDeclared, OtherOf, IsNextAt, NoneFrom, NoNext, InReach, MovesTo, ConcludedIs, SettledIs, AllTrueIn, IsConflict, IsLeveled, IsPassed, WatchedQuiet};
 
 use crate::copies::Copies;
@@ -29,22 +31,22 @@ use sat_model::memory::Memory;
 use trail_state::reason::Reason;
 use trail_state::trail::Trail;
 
-// Whether a literal may be watched in place of a false one: it is neither false nor the other one that is watched.
-fn may_watch(trail: &Trail, lit: Lit, other: Lit) -> bool
+// Whether a literal may be watched in place of a false one.
+fn may_watch(trail: &Trail, lit: Lit) -> bool
     requires { var_of lit ≤ trail.now.declared }
-    ensures { result ≡ (not (true_on trail.now.steps (neg lit)) && not (lit == other)) }
+    ensures { result ≡ not (true_on trail.now.steps (neg lit)) }
 {
-    !trail.is_false(lit) && lit != other
+    !trail.is_false(lit)
 }
 
-// The place, from the third on, of a literal of the clause that may be watched.
-fn next_at(trail: &Trail, clause: &[Lit], other: Lit) -> Option<usize>
+// The place, behind the two in front, of a literal of the clause that may be watched.
+fn next_at(trail: &Trail, clause: &[Lit]) -> Option<usize>
     requires { AllDeclared trail.now.declared clause.now }
-    ensures { MatchOption result (NoneFrom trail.now.steps clause.now other (length clause.now)) (λ k. IsNextAt trail.now.steps clause.now other k) }
+    ensures { MatchOption result (NoneFrom trail.now.steps clause.now (length clause.now)) (λ k. IsNextAt trail.now.steps clause.now k) }
 {
     let mut k = 2;
     while k < clause.len() {
-        let found = may_watch(trail, clause[k], other);
+        let found = may_watch(trail, clause[k]);
         if found {
             return Some(k);
         }
@@ -133,7 +135,7 @@ fn settle(
     requires known { id < length copies.old }
     requires watched { WatchesIt (front (copy copies.old id)) f }
     requires held { HoldsPair (ids_of attached.now) id (slot store.now id) (length lists.old) (front (copy copies.old id)) }
-    requires same { SameLits (copy copies.old id) (slot_lits (slot store.now id)) }
+    requires copied { IsCopy (copy copies.old id) (slot_lits (slot store.now id)) }
     requires ready { AllReady (ids_of attached.now) store.now trail.old.declared }
     requires blocks { Blocks (slot_lits (slot store.now id)) f (record { id = id; blocker = blocker; binary = binary }) }
     requires fallen { true_on trail.old.steps (neg f) ≡ true }
@@ -152,9 +154,12 @@ fn settle(
     if trail.is_true(other) {
         return Ok(Settled::Stays(other));
     }
-    match next_at(trail, clause, other) {
+    match next_at(trail, clause) {
         Some(k) => {
             let next = clause[k];
+            if trail.is_true(next) {
+                return Ok(Settled::Stays(next));
+            }
             move_watch(id, f, other, next, k, lists, copies)?;
             Ok(Settled::Moves)
         }

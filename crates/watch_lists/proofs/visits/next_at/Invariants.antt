@@ -5,7 +5,7 @@ use Rattle.watch_lists.proofs.visits.next_at.Given as goal
 abbrev pub invariant-loop-k : goal.invariant-loop-k
 invariant-loop-k l = record {
   late : 2 ≤ l.k;
-  none : NoneFrom l.trail.steps l.clause l.other l.k;
+  none : NoneFrom l.trail.steps l.clause l.k;
 }
 
 abbrev pub decreases-loop-k : goal.decreases-loop-k

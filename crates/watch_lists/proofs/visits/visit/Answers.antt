@@ -25,8 +25,8 @@ settle-requires-clause-held c =
     let in' : c.each.i < length c.each.ws.items = omega arith in
     rw (← pair_front c.each.copies c.index.result.now.id) (reads_held _ _ _ _ _ _ _ _ _ _ _ _ c.index.result.now c.each.invariant.visiting in' c.index.ensures)
 
-pub settle-requires-clause-same : goal.settle-requires-clause-same
-settle-requires-clause-same c =
+pub settle-requires-clause-copied : goal.settle-requires-clause-copied
+settle-requires-clause-copied c =
     let in' : c.each.i < length c.each.ws.items = omega arith in
     let w = subst (λ p. WatchesIt p c.args.f) (pair_front c.each.copies c.index.result.now.id) (reads_watched _ _ _ _ _ _ _ _ _ _ _ _ c.index.result.now c.each.invariant.visiting in' c.index.ensures) in
     c.each.invariant.copied c.index.result.now.id w.differ
@@ -91,7 +91,7 @@ each-preserved c =
     (record {
       visiting = visit_moves _ _ _ _ _ _ _ _ _ _ _ _ c.index.result.now _ _ m.other m.next v in' c.index.ensures (subst (λ p. OtherOf p c.args.f m.other) (sym (pair_front cs id)) m.one) m.holds m.apart m.open_yet m.lists pairs-is
           (ap length m.lists ∙ length-set c.each.lists m.next _ ∙ v.sized);
-      copied = copied_moves c.args.store.now cs _ id m.now (omega arith) c.each.invariant.copied (subst (λ (p : Pair). p.first ≢ p.second) (pair_front cs id) w.differ) m.copies m.same;
+      copied = copied_moves c.args.store.now cs _ id m.now (omega arith) c.each.invariant.copied (subst (λ (p : Pair). p.first ≢ p.second) (pair_front cs id) w.differ) m.copies m.same m.once;
       keeps = keeps_then _ _ _ c.each.invariant.keeps (keeps_moved cs _ id m.other m.next m.now (omega arith) (subst (λ (p : Pair). p.first ≢ p.second) (pair_front cs id) w.differ) m.copies m.fronted m.apart);
     })
 
