@@ -9,14 +9,14 @@ use Rattle.clause_store.specs.Stored.{Stored, StoreTrue, slot, slot_lits}
 use Rattle.rooted_trails.specs.Known.{Known, stands_in}
 
 pub known : (s : List (Option Stored)) (f : Assignment) → StoreTrue s f → Known s f
-known s f sat = (sat, refl)
+known s f sat = record { clauses = sat; admitted = refl }
 
 pub from_known : (s : List (Option Stored)) (f : Assignment) → Known s f → StoreTrue s f
-from_known s f k = k.0
+from_known s f k = k.clauses
 
 -- where one store's clauses make another's true, what is known of the one is known of the other
 pub known_more : (s s' : List (Option Stored)) (f : Assignment) → (StoreTrue s f → StoreTrue s' f) → Known s f → Known s' f
-known_more s s' f more k = (more k.0, k.1)
+known_more s s' f more k = record { clauses = more k.clauses; admitted = k.admitted }
 
 -- what follows from all that is known follows from the clauses
 pub implied_known : (s : List (Option Stored)) (c : List ℕ) → Implies (Known s) c → Implies (StoreTrue s) c

@@ -10,8 +10,9 @@ abbrev pub everything : Assignment → Bool
 everything f = true
 
 -- an assignment makes the clauses of a store true, and is admitted
-abbrev pub Known : List (Option Stored) → Assignment → Type 0
-Known s f = StoreTrue s f × (everything f ≡ true)
+pub record Known (s : List (Option Stored)) (f : Assignment) : Type 0 where
+  pub clauses : StoreTrue s f
+  pub admitted : everything f ≡ true
 
 -- the literal stands in a live clause
 abbrev pub stands_in : List (Option Stored) → ℕ → Bool
