@@ -219,8 +219,8 @@ impl Kernel {
         ensures ok { IfOk result (λ id. Applies (AddImplied lits.now id) self.old self.new) }
         ensures err { OnErr result (self.new ≡ self.old) }
     {
-        let id = enter(&mut self.store, &mut self.changes, lits)?;
-        Ok(id)
+        let implied = enter(&mut self.store, &mut self.changes, lits)?;
+        Ok(implied)
     }
 
     /// Removes a firm clause that the other firm clauses imply.
@@ -229,8 +229,9 @@ impl Kernel {
         requires implied { Implies (OthersTrue self.old.store id) (slot_lits (slot self.old.store id)) }
         ensures { Applies (DropImplied id) self.old self.new }
     {
+        let removals = one_more(self.removals);
         leave(&mut self.store, &mut self.changes, id);
-        self.removals = one_more(self.removals);
+        self.removals = removals;
     }
 
     /// Moves a firm clause to the end of the stack, with a witness that witnesses it for the other firm clauses. After `Memory`

@@ -9,6 +9,7 @@ ghost use Rattle.search_policy.specs.Candidates.{is_unmarked, candidate_of, id_o
 
 use clause_store::store::Store;
 use clause_store::stored::Keep;
+use flag_set::set::FlagSet;
 use sat_model::lists::{ClauseId, Ids};
 use sat_model::memory::Memory;
 use std::alloc::{AllocError, Global};
@@ -47,12 +48,11 @@ fn is_redundant(store: &Store, id: ClauseId) -> bool
 }
 
 // Whether a clause may be forgotten, if it is not marked.
-fn is_candidate(store: &Store, marks: &[bool], id: ClauseId) -> bool
+fn is_candidate(store: &Store, marks: &FlagSet<ClauseId>, id: ClauseId) -> bool
     ensures { result ≡ is_unmarked store.now marks.now id }
 {
     let spare = is_redundant(store, id) && length_of(store, id) >= 2 && glue_of(store, id) >= 3;
-    let at = id.index();
-    let marked = at < marks.len() && marks[at];
+    let marked = marks.has(id);
     spare && !marked
 }
 
@@ -60,7 +60,7 @@ fn is_candidate(store: &Store, marks: &[bool], id: ClauseId) -> bool
 pub(crate) fn gather(
     alloc: Global,
     store: &Store,
-    marks: &[bool],
+    marks: &FlagSet<ClauseId>,
     ids: &[ClauseId],
 ) -> Result<Vec<Candidate>, AllocError>
     ensures { IfOk result (λ v. v.items ≡ map (candidate_of store.now) (filter (is_unmarked store.now marks.now) ids.now)) }

@@ -20,7 +20,7 @@ pub(crate) fn reduction(alloc: Global, store: &Store, trail: &Trail) -> Result<I
     ensures { IfOk result (IsReduction store.now trail.now.steps) }
 {
     let marks = reasons(alloc, store, trail)?;
-    let mut candidates = gather(alloc, store, marks.as_slice(), store.redundant_ids())?;
+    let mut candidates = gather(alloc, store, &marks, store.redundant_ids())?;
     candidates.sort_unstable();
     first_half(alloc, candidates.as_slice())
 }
