@@ -8,14 +8,15 @@ use Rattle.sat_terms.specs.Literal.{has, neg}
 use Rattle.sat_terms.specs.Truth.{Assignment, lit_true, lits_true}
 use Rattle.sat_terms.specs.Answer.{IsCore}
 use Rattle.sat_terms.proofs.Truths.{clause_true-from}
-use Rattle.clause_store.specs.Stored.{Stored, StoreTrue, slot, slot_lits}
+use Rattle.clause_store.specs.Stored.{Stored, slot, slot_lits}
 use Rattle.trail_state.specs.declared.trail.Step.{Step}
 use Rattle.trail_state.specs.declared.reason.Reason.TheVariants.{Clause}
 use Rattle.trail_state.specs.Trail.{step, true_on, IsTrail, IsStart}
 use Rattle.trail_state.specs.Clauses.{FalseOn}
+use Rattle.rooted_trails.specs.Known.{Known}
 use Rattle.rooted_trails.specs.Rooted.{RootedBy, Rooted}
 use Rattle.rooted_trails.specs.Marks.{flag, RootFollows, BlockedCore, Grows}
-use Rattle.rooted_trails.proofs.Reasons.{root_follows, rooted_above}
+use Rattle.rooted_trails.proofs.Reasons.{live_implied, root_follows, rooted_above}
 use Rattle.rooted_trails.proofs.Blocking.{root_fewer, core_start, core_step, core_end}
 use Rattle.assumption_core.specs.declared.cores.CoreStart.{CoreStart}
 use Rattle.assumption_core.specs.declared.cores.CoreStart.TheVariants.{Falsified, Conflict}
@@ -25,7 +26,7 @@ use Rattle.assumption_core.proofs.Marking.{CoversLit, CoversAll}
 
 module _ (s : List (Option Stored)) (t : List Step) (top : ℕ) (rooted : Rooted s t) (shape : IsTrail t top) (test : Assignment → Bool) where
   root : RootFollows (Both s test) t
-  root = root_fewer (StoreTrue s) (Both s test) t (λ f h. h.0) (root_follows s t top rooted shape)
+  root = root_fewer (Known s) (Both s test) t (λ f h. h.0) (root_follows s t top rooted shape)
 
   on_front : (l : ℕ) → true_on t l ≡ true → true_on (take (length t) t) l ≡ true
   on_front l h = rw (take_all (length t) t (omega arith)) h
@@ -36,14 +37,14 @@ module _ (s : List (Option Stored)) (t : List Step) (top : ℕ) (rooted : Rooted
   core_resolved id i c seen seen' m in' on reason is grows covers b =
       let r : RootedBy s t i (Clause id) = subst (RootedBy s t i) (sym reason) (rooted_above s t i rooted in' (m.above i on)) in
       let covers' : CoversAll t seen' (slot_lits (slot s id)) = rw is at covers in
-      core_step (Both s test) t top root shape (slot_lits (slot s id)) seen seen' i (λ f h. h.0 id r.0) (rw add-one at b) grows (λ l k n. covers' l i k (r.1.others l k n))
+      core_step (Both s test) t top root shape (slot_lits (slot s id)) seen seen' i (λ f h. live_implied s id r.0 f h.0) (rw add-one at b) grows (λ l k n. covers' l i k (r.1.others l k n))
 
   -- a clause that is false
   pub core_of_clause : (id : ℕ) (c : List ℕ) (seen : List Bool) → IsSome (slot s id) → FalseOn t (slot_lits (slot s id)) → c ≡ slot_lits (slot s id) → CoversAll t seen c
       → BlockedCore (Both s test) t seen (length t)
   core_of_clause id c seen live off is covers =
       let covers' : CoversAll t seen (slot_lits (slot s id)) = rw is at covers in
-      core_start (Both s test) t top root shape (slot_lits (slot s id)) seen (length t) (λ f h. h.0 id live) (λ l k. covers' l (length t) k (on_front (neg l) (off l k)))
+      core_start (Both s test) t top root shape (slot_lits (slot s id)) seen (length t) (λ f h. live_implied s id live f h.0) (λ l k. covers' l (length t) k (on_front (neg l) (off l k)))
 
 -- an assumption that is false
 pub core_of_lit : (s : List (Option Stored)) (t : List Step) (top : ℕ) → Rooted s t → IsTrail t top → (lit : ℕ) (seen : List Bool) → true_on t (neg lit) ≡ true → CoversLit t seen lit
@@ -83,12 +84,12 @@ module _ (s : List (Option Stored)) (t : List Step) (falsified : Option ℕ) (se
   asked None e known f all = refl
   asked (Some l) e known f all = true_member f core l all (held.all l (known l refl) (inl e))
 
-  pub core_is : BlockedCore (Both s (asks falsified)) t seen 0 → DecidesAssumed t assumptions → ((l : ℕ) → falsified ≡ Some l → has assumptions l ≡ true) → IsCore (StoreTrue s) assumptions core
-  core_is blocked decides known = record {
+  pub core_is : BlockedCore (Both s (asks falsified)) t seen 0 → DecidesAssumed t assumptions → ((l : ℕ) → falsified ≡ Some l → has assumptions l ≡ true) → IsCore (Known s) assumptions core
+  core_is blocked decides assumed = record {
     some = held.some;
     once = held.once;
-    none = λ f sat all.
-        core_end (Both s (asks falsified)) t seen blocked f (sat, asked falsified refl known f all) (λ j on dec.
+    none = λ f known all.
+        core_end (Both s (asks falsified)) t seen blocked f (known, asked falsified refl assumed f all) (λ j on dec.
         let in' : j < length t = rw (← m.long) (marked_within seen j on) in
         true_member f core (step t j).lit all (held.all (step t j).lit (decides j in' dec) (inr (j, in', on, dec, refl))));
   }
@@ -96,7 +97,7 @@ module _ (s : List (Option Stored)) (t : List Step) (falsified : Option ℕ) (se
 -- what the calls of a core give
 pub core_found : {E : Type 0} (s : List (Option Stored)) (t : List Step) (assumptions : List ℕ) (start : CoreStart) (falsified : Option ℕ) (seen : List Bool) (r : Result (List ℕ) E)
     → IsMarked t seen → falsified ≡ falsified_by start → BlockedCore (Both s (asks (falsified_by start))) t seen 0 → DecidesAssumed t assumptions → Starts s t assumptions start
-    → IfOk r (λ core. HoldsNeeded (IsNeeded t falsified seen) assumptions core) → IfOk r (λ core. IsCore (StoreTrue s) assumptions core)
+    → IfOk r (λ core. HoldsNeeded (IsNeeded t falsified seen) assumptions core) → IfOk r (λ core. IsCore (Known s) assumptions core)
 core_found s t assumptions start falsified seen (Ok core) m is blocked decides starts held =
     core_is s t falsified seen assumptions core m held (rw is blocked) decides (λ l e. falsified_assumed s t assumptions start starts l (sym is ∙ e))
 core_found s t assumptions start falsified seen (Err e) m is blocked decides starts held = tt

@@ -2,11 +2,12 @@
 use Rattle.std.specs.Prelude.{◌≡◌, ◌<◌, ℕ, Bool, true, List, length, Option, Some, None, IsSome}
 use Rattle.sat_terms.specs.Literal.{has, neg}
 use Rattle.sat_terms.specs.Truth.{Assignment, lit_true}
-use Rattle.clause_store.specs.Stored.{Stored, StoreTrue, slot, slot_lits}
+use Rattle.clause_store.specs.Stored.{Stored, slot, slot_lits}
 use Rattle.trail_state.specs.declared.trail.Step.{Step}
 use Rattle.trail_state.specs.declared.reason.Reason.TheVariants.{Decision}
 use Rattle.trail_state.specs.Trail.{step, true_on}
 use Rattle.trail_state.specs.Clauses.{FalseOn}
+use Rattle.rooted_trails.specs.Known.{Known}
 use Rattle.assumption_core.specs.declared.cores.CoreStart.{CoreStart}
 use Rattle.assumption_core.specs.declared.cores.CoreStart.TheVariants.{Falsified, Conflict}
 
@@ -29,6 +30,6 @@ abbrev pub asks : Option ℕ → Assignment → Bool
 asks None f = true
 asks (Some lit) f = lit_true f lit
 
--- the assignments that make a store true and that pass a test
+-- what is known of an assignment, and that it passes a test
 abbrev pub Both : List (Option Stored) → (Assignment → Bool) → Assignment → Type 0
-Both s test f = StoreTrue s f × (test f ≡ true)
+Both s test f = Known s f × (test f ≡ true)

@@ -4,10 +4,11 @@ use Rattle.std.specs.Prelude.{IsSome}
 use Rattle.std.proofs.lemmas.Bool.{false≢true, cases_eq}
 use Rattle.std.proofs.lemmas.List.{take_all}
 use Rattle.sat_terms.specs.Literal.{has, neg, var_of}
-use Rattle.clause_store.specs.Stored.{Stored, StoreTrue, slot, slot_lits}
+use Rattle.clause_store.specs.Stored.{Stored, slot, slot_lits}
 use Rattle.trail_state.specs.declared.reason.Reason.TheVariants.{Decision}
 use Rattle.trail_state.specs.Trail.{Trace, step, true_on, IsTrail, HasRoom}
 use Rattle.trail_state.specs.Clauses.{FalseOn, IsReason}
+use Rattle.rooted_trails.specs.Known.{Known}
 use Rattle.rooted_trails.specs.Rooted.{Rooted}
 use Rattle.rooted_trails.specs.Marks.{flag, Covered, Grows}
 use Rattle.rooted_trails.proofs.Reasons.{live_implied, root_follows}
@@ -44,7 +45,7 @@ resolving_begin s tr id c r rooted shape live is above reaches off m covered fro
     let all : take (length tr.steps) tr.steps ≡ tr.steps = take_all (length tr.steps) tr.steps (omega arith) in
     record {
       wide = m.wide;
-      resolving = resolving_start (StoreTrue s) tr.steps tr.level c (marks_on r.seen tr.steps) r.count r.lits (root_follows s tr.steps tr.level rooted shape) shape (rw is (live_implied s id live)) above reaches m.marked
+      resolving = resolving_start (Known s) tr.steps tr.level c (marks_on r.seen tr.steps) r.count r.lits (root_follows s tr.steps tr.level rooted shape) shape (rw is (live_implied s id live)) above reaches m.marked
           (λ l h. covered l h (rw all (off l h)));
       met_all = m.met_all;
       met_false = m.met_false;
@@ -52,14 +53,14 @@ resolving_begin s tr id c r rooted shape live is above reaches off m covered fro
     }
 
 module _ (s : List (Option Stored)) (tr : Trace) (i : ℕ) (r : Resolvent) (w : IsResolving s tr (i + 1) r) (shape : IsTrail tr.steps tr.level) (in' : i < length tr.steps) where
-  before : Resolving (StoreTrue s) tr.steps tr.level (suc i) (marks_on r.seen tr.steps) r.count r.lits
+  before : Resolving (Known s) tr.steps tr.level (suc i) (marks_on r.seen tr.steps) r.count r.lits
   before = rw add-one at w.resolving
 
   -- a place that is not marked is passed over
   pub resolving_off : flag (marks_on r.seen tr.steps) i ≡ false → IsResolving s tr i r
   resolving_off off = record {
     wide = w.wide;
-    resolving = resolving_skip (StoreTrue s) tr.steps tr.level i (marks_on r.seen tr.steps) r.count r.lits before shape in' off;
+    resolving = resolving_skip (Known s) tr.steps tr.level i (marks_on r.seen tr.steps) r.count r.lits before shape in' off;
     met_all = w.met_all;
     met_false = w.met_false;
     from = w.from;
@@ -69,13 +70,13 @@ module _ (s : List (Option Stored)) (tr : Trace) (i : ℕ) (r : Resolvent) (w : 
   above_here on = before.marked.above_root i on
 
   pub implied_here : 1 < r.count → (step tr.steps i).reason ≢ Decision
-  implied_here more = no_decision (StoreTrue s) tr.steps tr.level i (marks_on r.seen tr.steps) r.count r.lits before shape in' more
+  implied_here more = no_decision (Known s) tr.steps tr.level i (marks_on r.seen tr.steps) r.count r.lits before shape in' more
 
   -- it is done
   pub marking_down : (r' : Resolvent) → r' ≡ record r { count = r.count - 1 } → 1 < r.count → flag (marks_on r.seen tr.steps) i ≡ true → IsMarking tr i r'
   marking_down r' e more on = rw e (record {
     wide = w.wide;
-    marked = marked_down (StoreTrue s) tr.steps tr.level i (marks_on r.seen tr.steps) r.count r.lits before shape in' more on;
+    marked = marked_down (Known s) tr.steps tr.level i (marks_on r.seen tr.steps) r.count r.lits before shape in' more on;
     met_all = w.met_all;
     met_false = w.met_false;
   })
@@ -93,7 +94,7 @@ module _ (s : List (Option Stored)) (tr : Trace) (i : ℕ) (r : Resolvent) (w : 
       → ((l : ℕ) → has r'.met l ≡ true → (has r.met l ≡ true) ⊎ (has c l ≡ true)) → IsResolving s tr i r'
   resolving_next id c r' rooted more live c-is reason m grows covered from = record {
     wide = m.wide;
-    resolving = resolving_step (StoreTrue s) tr.steps tr.level i (marks_on r.seen tr.steps) r.count r.lits before shape in' c (marks_on r'.seen tr.steps) r'.count r'.lits more (rw c-is (live_implied s id live))
+    resolving = resolving_step (Known s) tr.steps tr.level i (marks_on r.seen tr.steps) r.count r.lits before shape in' c (marks_on r'.seen tr.steps) r'.count r'.lits more (rw c-is (live_implied s id live))
         (root_follows s tr.steps tr.level rooted shape) m.marked (marks_grow r.seen r'.seen tr.steps grows) (λ l h n. covered l h (reason.others l h n));
     met_all = m.met_all;
     met_false = m.met_false;
@@ -104,7 +105,7 @@ module _ (s : List (Option Stored)) (tr : Trace) (i : ℕ) (r : Resolvent) (w : 
   pub resolved_here : flag (marks_on r.seen tr.steps) i ≡ true → r.count ≤ 1 → IsResolved s tr i r
   resolved_here on one = record {
     wide = w.wide;
-    uip = uip_here (StoreTrue s) tr.steps tr.level i (marks_on r.seen tr.steps) r.count r.lits before shape in' on one;
+    uip = uip_here (Known s) tr.steps tr.level i (marks_on r.seen tr.steps) r.count r.lits before shape in' on one;
     met_all = w.met_all;
     met_false = w.met_false;
     from = w.from;
@@ -112,7 +113,7 @@ module _ (s : List (Option Stored)) (tr : Trace) (i : ℕ) (r : Resolvent) (w : 
 
 -- an open place is left below
 pub place_left : (s : List (Option Stored)) (tr : Trace) (i : ℕ) (r : Resolvent) → IsResolving s tr i r → 0 < i
-place_left s tr i r w = resolving_pos (StoreTrue s) tr.steps tr.level i (marks_on r.seen tr.steps) r.count r.lits w.resolving
+place_left s tr i r w = resolving_pos (Known s) tr.steps tr.level i (marks_on r.seen tr.steps) r.count r.lits w.resolving
 
 -- the next turn of the walk
 pub walk_on : (s : List (Option Stored)) (tr : Trace) (i : ℕ) (r : Resolvent) → i < length tr.steps → IsResolving s tr i r → (i - 1 < length tr.steps) × IsResolving s tr (i - 1 + 1) r

@@ -1,3 +1,4 @@
+pub mod Knowing
 pub mod Falses
 pub mod Reasons
 pub mod Blocking

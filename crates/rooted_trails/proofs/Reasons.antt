@@ -6,7 +6,7 @@ use Rattle.std.proofs.lemmas.List.{take-append-le, take_at, take-take, length-ta
 use Rattle.std.proofs.Math.Bool.{or-false}
 use Rattle.sat_terms.specs.Literal.{has, neg}
 use Rattle.sat_terms.specs.Truth.{Assignment, lit_true, Implies}
-use Rattle.clause_store.specs.Stored.{Stored, StoreTrue, Fills, slot, slot_lits}
+use Rattle.clause_store.specs.Stored.{Stored, Fills, slot, slot_lits}
 use Rattle.trail_state.specs.declared.trail.Step.{Step}
 use Rattle.trail_state.specs.declared.reason.Reason.{Reason}
 use Rattle.trail_state.specs.declared.reason.Reason.TheVariants.{Decision, Clause, Theory}
@@ -15,13 +15,15 @@ use Rattle.trail_state.specs.Clauses.{IsReason, IsUnit}
 use Rattle.trail_state.proofs.Changes.{step_old, step_new, old_or_new}
 use Rattle.trail_state.proofs.Backing.{step_take}
 use Rattle.trail_state.proofs.Levels.{decided}
+use Rattle.rooted_trails.specs.Known.{Known}
 use Rattle.rooted_trails.specs.Rooted.{RootedBy, Rooted}
 use Rattle.rooted_trails.specs.Marks.{RootFollows}
+use Rattle.rooted_trails.proofs.Knowing.{from_known}
 use Rattle.rooted_trails.proofs.Falses.{place_in_front, false_by_neg, resolved}
 
 -- a live clause is implied
-pub live_implied : (s : List (Option Stored)) (id : ℕ) → IsSome (slot s id) → Implies (StoreTrue s) (slot_lits (slot s id))
-live_implied s id live f h = h id live
+pub live_implied : (s : List (Option Stored)) (id : ℕ) → IsSome (slot s id) → Implies (Known s) (slot_lits (slot s id))
+live_implied s id live f h = from_known s f h id live
 
 -- above the root a step has its reason
 pub rooted_above : (s : List (Option Stored)) (t : List Step) (i : ℕ) → Rooted s t → i < length t → 0 < (step t i).level → RootedBy s t i (step t i).reason
@@ -33,18 +35,18 @@ pub follows_by_reason : (F : Assignment → Type 0) (t : List Step) (j : ℕ) (c
 follows_by_reason F t j c imp r f h before =
     resolved f c (step t j).lit (imp f h) (λ l m n. let p = place_in_front j t (neg l) (r.others l m n) in false_by_neg f l (rw (← p.3) (before p.0 p.1)))
 
-root_by : (s : List (Option Stored)) (t : List Step) (j : ℕ) (r : Reason) → r ≢ Decision → RootedBy s t j r → (f : Assignment) → StoreTrue s f
+root_by : (s : List (Option Stored)) (t : List Step) (j : ℕ) (r : Reason) → r ≢ Decision → RootedBy s t j r → (f : Assignment) → Known s f
     → ((i : ℕ) → i < j → lit_true f (step t i).lit ≡ true) → lit_true f (step t j).lit ≡ true
 root_by s t j Decision n h f sat before = absurd (n refl)
-root_by s t j (Clause id) n h f sat before = follows_by_reason (StoreTrue s) t j (slot_lits (slot s id)) (live_implied s id h.0) h.1 f sat before
+root_by s t j (Clause id) n h f sat before = follows_by_reason (Known s) t j (slot_lits (slot s id)) (live_implied s id h.0) h.1 f sat before
 root_by s t j Theory n h f sat before = absurd h
 
--- the literals of the root of a rooted trail follow from the store
-pub root_follows : (s : List (Option Stored)) (t : List Step) (top : ℕ) → Rooted s t → IsTrail t top → RootFollows (StoreTrue s) t
+-- the literals of the root of a rooted trail follow from what is known
+pub root_follows : (s : List (Option Stored)) (t : List Step) (top : ℕ) → Rooted s t → IsTrail t top → RootFollows (Known s) t
 root_follows s t top rooted shape j in' z f sat before =
     elim (rooted j in') [
       | inl r ↦ root_by s t j (step t j).reason (λ e. let d = decided 0 t top shape.levels j in' e in absurd (omega arith)) r f sat before
-      | inr u ↦ resolved f (slot_lits (slot s u.1.0)) (step t j).lit (sat u.1.0 u.1.1) (λ l m n.
+      | inr u ↦ resolved f (slot_lits (slot s u.1.0)) (step t j).lit (live_implied s u.1.0 u.1.1 f sat) (λ l m n.
           absurd (n (sym (only (step t j).lit l (rw u.1.2 at m)))))
     ] where
       only : (p l : ℕ) → has (p ∷ []) l ≡ true → p ≡ l

@@ -8,7 +8,7 @@ use Rattle.sat_terms.specs.Literal.{has, neg, var_of}
 use Rattle.sat_terms.specs.Answer.{Within, IsSubsequence, IsCore}
 use Rattle.sat_terms.proofs.Literals.{var_of-neg}
 use Rattle.sat_terms.specs.Truth.{Implies}
-use Rattle.clause_store.specs.Stored.{Stored, slot, slot_lits, is_firm, StoreTrue, Fills}
+use Rattle.clause_store.specs.Stored.{Stored, slot, slot_lits, is_firm, Fills}
 use Rattle.clause_store.proofs.Slots.{StoreTrue-filled}
 use Rattle.sat_terms.proofs.Members.{has_item}
 use Rattle.trail_state.specs.declared.trail.Step.{Step}
@@ -18,7 +18,9 @@ use Rattle.trail_state.specs.Clauses.{FalseOn, IsUnit}
 use Rattle.trail_state.proofs.Backing.{step_take}
 use Rattle.trail_state.proofs.Changes.{step_old, step_new, old_or_new}
 use Rattle.trail_state.proofs.Places.{place_of_true}
+use Rattle.rooted_trails.specs.Known.{Known}
 use Rattle.rooted_trails.specs.Rooted.{Rooted}
+use Rattle.rooted_trails.proofs.Knowing.{known_more}
 use Rattle.rooted_trails.proofs.Falses.{not_all_false, false_by_neg}
 use Rattle.rooted_trails.proofs.Blocking.{root_true}
 use Rattle.rooted_trails.proofs.Reasons.{rooted_back, rooted_push, rooted_filled, live_filled, live_implied, unit_reason, root_follows}
@@ -56,11 +58,11 @@ false_within t c room off k d in' = false_named t (get_or c k d) room (off (get_
 
 -- a redundant clause more in the store
 module _ (s s' : List (Option Stored)) (id : ℕ) (c : Stored) (fills : Fills s s' id c) where
-  pub learns_filled : is_firm (Some c) ≡ false → Implies (StoreTrue s) c.lits → Learns s s'
+  pub learns_filled : is_firm (Some c) ≡ false → Implies (Known s) c.lits → Learns s s'
   learns_filled soft implied = record {
     firm = λ k h. fills.others k (λ e. false≢true (sym (ap is_firm (ap (slot s) e ∙ fills.free)) ∙ h));
     no_more = λ k h. fills.others k (λ e. false≢true (sym soft ∙ sym (ap is_firm (ap (slot s') e ∙ fills.filled)) ∙ h));
-    implied = λ f sat. StoreTrue-filled f fills sat (implied f sat);
+    implied = λ f known. known_more s s' f (λ sat. StoreTrue-filled f fills sat (implied f known)) known;
   }
 
   pub attaches_filled : (ids ids' : List ℕ) → AttachesLive ids s → ((k : ℕ) → has ids' k ≡ (has ids k || eqb id k)) → AttachesLive ids' s'
@@ -128,18 +130,18 @@ pub keeps_back : (assumptions : List ℕ) (core : Core) (t : Trace) (o : Ordered
 keeps_back assumptions core t o p w tally scratch level ready back same size following orderly known =
     keeps_ready assumptions core (record core { trail = t; order = o; policy = p; watches = w; tally = tally; scratch = scratch }) ready (ready_back assumptions core t o p w tally scratch level ready back same size following orderly known) (learns_same core.store) back.declared refl
 
--- where a clause is false at the root, no assignment makes the stored clauses true
+-- where a clause is false at the root, nothing that is known can be
 pub root_conflict : (assumptions : List ℕ) (s : List (Option Stored)) (t : List Step) (top id level : ℕ) → Rooted s t → IsTrail t top → IsSome (slot s id) → FalseOn t (slot_lits (slot s id))
-    → ((l : ℕ) → has (slot_lits (slot s id)) l ≡ true → lit_level t l ≤ level) → level ≡ 0 → IsCore (StoreTrue s) assumptions []
+    → ((l : ℕ) → has (slot_lits (slot s id)) l ≡ true → lit_level t l ≤ level) → level ≡ 0 → IsCore (Known s) assumptions []
 root_conflict assumptions s t top id level rooted shape live off low zero' = record {
   some = none assumptions;
   once = λ i j d lt in'. absurd (omega arith);
-  none = λ f sat assumed.
-      not_all_false f (slot_lits (slot s id)) (live_implied s id live f sat) (λ l m.
+  none = λ f known assumed.
+      not_all_false f (slot_lits (slot s id)) (live_implied s id live f known) (λ l m.
       let p = place_of_true t (neg l) (off l m) in
       let e = level_here t top l p.0 shape p.1 (ap var_of p.2 ∙ var_of-neg l) in
       let le = low l m in
-      false_by_neg f l (rw (← p.2) (root_true (StoreTrue s) t top (root_follows s t top rooted shape) shape f sat (suc p.0) p.0 (omega arith) p.1 (omega arith))));
+      false_by_neg f l (rw (← p.2) (root_true (Known s) t top (root_follows s t top rooted shape) shape f known (suc p.0) p.0 (omega arith) p.1 (omega arith))));
 } where
   none : (xs : List ℕ) → IsSubsequence [] xs
   none [] = refl
@@ -153,7 +155,7 @@ pub record Taught (assumptions : List ℕ) (core : Core) (s : List (Option Store
   pub room : HasRoom core.trail
   pub fills : Fills core.store s id c
   pub soft : is_firm (Some c) ≡ false
-  pub implied : Implies (StoreTrue core.store) c.lits
+  pub implied : Implies (Known core.store) c.lits
   pub off : FalseOn core.trail.steps c.lits
   pub asserts : IsAsserting core.trail.steps core.trail.level c.lits lit level
 
@@ -223,7 +225,7 @@ module _ {assumptions : List ℕ} {core : Core} {s : List (Option Stored)} {id :
 
 -- the same, as the code reads it
 pub taught_by : {assumptions : List ℕ} {core : Core} {s : List (Option Stored)} {id lit level : ℕ} {c : Stored} {lits : List ℕ} → IsReady assumptions core → AssumesFirst assumptions core.trail.steps → IsTrail core.trail.steps core.trail.level
-    → HasRoom core.trail → Fills core.store s id c → is_firm (Some c) ≡ false → c.lits ≡ lits → Implies (StoreTrue core.store) lits → FalseOn core.trail.steps lits
+    → HasRoom core.trail → Fills core.store s id c → is_firm (Some c) ≡ false → c.lits ≡ lits → Implies (Known core.store) lits → FalseOn core.trail.steps lits
     → (owes : Owes core.tally.owes core.trail.steps core.trail.level lits level) → owes.lit ≡ lit → Taught assumptions core s id c lit level
 taught_by {assumptions} {core} {s} {id} {lit} {level} {c} {lits} ready first shape room fills soft same implied off owes is = record {
   ready = ready;

@@ -9,6 +9,7 @@ use Rattle.trail_state.specs.declared.trail.Step.{Step}
 use Rattle.trail_state.specs.declared.reason.Reason.{Reason}
 use Rattle.trail_state.specs.declared.reason.Reason.TheVariants.{Decision, Clause, Theory}
 use Rattle.trail_state.specs.Trail.{step}
+use Rattle.rooted_trails.proofs.Knowing.{known_more}
 use Rattle.rooted_trails.specs.Rooted.{Rooted, RootedBy, RootedAt, HasUnit}
 use Rattle.watch_lists.specs.Propagation.{Watching, Follows}
 use Rattle.search_policy.specs.Reduction.{names, IsForgettable}
@@ -51,9 +52,9 @@ module _ (s s' : List (Option Stored)) (t : List Step) (gone : List ℕ) (frees 
   learns_freed = record {
     firm = λ k h. kept k (λ there. false≢true (sym (redundant_no_firm (slot s k) (spare k there).redundant) ∙ h));
     no_more = λ k h. kept k (λ there. false≢true (sym (ap is_firm (frees.freed k there)) ∙ h));
-    implied = λ f sat k live.
+    implied = λ f. known_more s s' f (λ sat k live.
         let same = kept k (λ there. false≢true (sym (ap is_some (frees.freed k there)) ∙ live)) in
-        rw same (sat k (rw same at live));
+        rw same (sat k (rw same at live)));
   }
 
   pub within_freed : (n : ℕ) → StoreWithin n s → StoreWithin n s'
@@ -123,7 +124,7 @@ module _ (s s' : List (Option Stored)) (same : SameSlots s s') where
   learns_slots = record {
     firm = λ k h. same k;
     no_more = λ k h. same k;
-    implied = λ f sat k live. let e = same k in rw e (sat k (rw e at live));
+    implied = λ f. known_more s s' f (λ sat k live. let e = same k in rw e (sat k (rw e at live)));
   }
 
 -- a core with such a store

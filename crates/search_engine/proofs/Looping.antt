@@ -156,7 +156,7 @@ found_before assumptions a b c k found.Sat h = record {
 found_before assumptions a b c k (found.Unsat core) h = record {
   some = h.some;
   once = h.once;
-  none = λ f sat. h.none f (k.learns.implied f sat);
+  none = λ f known. h.none f (k.learns.implied f known);
 }
 found_before assumptions a b c k (found.Spent (Conflicts n)) h = h
 

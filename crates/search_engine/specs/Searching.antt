@@ -3,11 +3,12 @@ use Rattle.std.specs.Prelude.{◌≡◌, ◌+◌, ◌^◌, ◌<◌, ◌≤◌, m
 use Rattle.sat_terms.specs.Literal.{has, pos_lit}
 use Rattle.sat_terms.specs.Truth.{Assignment, values}
 use Rattle.sat_terms.specs.Answer.{Within, IsModel, IsCore}
-use Rattle.clause_store.specs.Stored.{Stored, slot, slot_lits, is_firm, FirmTrue, StoreTrue}
+use Rattle.clause_store.specs.Stored.{Stored, slot, slot_lits, is_firm, FirmTrue}
 use Rattle.clause_store.specs.Listing.{times}
 use Rattle.trail_state.specs.declared.trail.Step.{Step}
 use Rattle.trail_state.specs.Trail.{Trace, true_on, value_on}
 use Rattle.decide_order.specs.Ordering.{Ordered, is_active, Follows as FindsFree}
+use Rattle.rooted_trails.specs.Known.{Known}
 use Rattle.rooted_trails.specs.Rooted.{Rooted}
 use Rattle.watch_lists.specs.Propagation.{Follows}
 use Rattle.conflict_analysis.specs.Counting.{Counted, IsDue}
@@ -67,11 +68,12 @@ pub record IsAtRest (c : Core) : Type 0 where
   pub root : c.trail.level ≡ 0
   pub standing : IsStanding c
 
--- A store has learned: its firm clauses are the same, and whatever made all of its clauses true makes those of now true.
+-- A store has learned: its firm clauses are the same, and what is known of an assignment by the clauses of before is known by
+-- those of now.
 pub record Learns (old new : List (Option Stored)) : Type 0 where
   pub firm : (id : ℕ) → is_firm (slot old id) ≡ true → slot new id ≡ slot old id
   pub no_more : (id : ℕ) → is_firm (slot new id) ≡ true → slot new id ≡ slot old id
-  pub implied : (f : Assignment) → StoreTrue old f → StoreTrue new f
+  pub implied : (f : Assignment) → Known old f → Known new f
 
 -- What a search keeps, whatever it answers.
 pub record Keeps (old new : Core) : Type 0 where
@@ -109,5 +111,5 @@ pub record IsSpent (n : ℕ) (t : Counted) : Type 0 where
 -- what is found
 abbrev pub FoundIs : List ℕ → Core → Core → Found → Type 0
 FoundIs assumptions old new found.Sat = HasModel assumptions old new
-FoundIs assumptions old new (found.Unsat core) = IsCore (StoreTrue (clauses old)) assumptions core
+FoundIs assumptions old new (found.Unsat core) = IsCore (Known (clauses old)) assumptions core
 FoundIs assumptions old new (found.Spent (Conflicts n)) = IsSpent n new.tally

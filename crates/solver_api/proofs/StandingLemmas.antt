@@ -6,6 +6,7 @@ use Rattle.std.proofs.lemmas.List.Elements.{All-weaker}
 use Rattle.sat_terms.specs.Literal.{var_of}
 use Rattle.sat_terms.specs.Answer.{Within, NoModel, IsModel, IsCore}
 use Rattle.clause_store.specs.Stored.{FirmTrue, StoreTrue, slot, slot_lits}
+use Rattle.rooted_trails.proofs.Knowing.{known, from_known}
 use Rattle.search_engine.specs.Searching.{StoreWithin, Learns}
 use Rattle.solver_api.specs.declared.givens.GivenPart.{GivenPart}
 use Rattle.solver_api.specs.declared.givens.GivenPart.TheVariants.{Clause}
@@ -42,7 +43,7 @@ stands_for_taken h k given n lits takes same within s = record {
 -- the engine learns
 pub stands_for_learned : (h k : Held) (given : List GivenPart) (n : ℕ) → Learns h.store k.store → StoreWithin n k.store → k.declared ≤ n → StandsFor h given n → StandsFor k given n
 stands_for_learned h k given n learns within le s = record {
-  follows = λ f all. learns.implied f (s.follows f all);
+  follows = λ f all. from_known k.store f (learns.implied f (known h.store f (s.follows f all)));
   suffices = λ f all. s.suffices f (firm_before h.store k.store learns f all);
   within = within;
   declared = le;

@@ -1,4 +1,5 @@
 use Rattle.std.proofs.Common.{◌≡◌, sym, ap, ◌∙◌}
+use Rattle.rooted_trails.proofs.Reasons.{rooted_back}
 use Rattle.search_policy.specs.Plan.{restarts_left}
 use Rattle.search_engine.proofs.Keeping.{keeps_none, keeps_more}
 use Rattle.search_engine.proofs.Measures.{left_paced}
@@ -15,6 +16,9 @@ returns-then-at_root-clause-turn c =
 
 pub back_to-requires-clause-level : goal.back_to-requires-clause-level
 back_to-requires-clause-level c = highest_bound _ _ _ _ c.law_shape.ensures c.highest-top.ensures.attained
+
+pub analyze-answer-requires-clause-rooted : goal.analyze-answer-requires-clause-rooted
+analyze-answer-requires-clause-rooted c = rooted_back _ _ _ _ c.back_to.ensures.back c.requires.stands.ready.rooted
 
 pub analyze-answer-requires-clause-is_false : goal.analyze-answer-requires-clause-is_false
 analyze-answer-requires-clause-is_false c =

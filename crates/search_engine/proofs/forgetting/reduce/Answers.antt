@@ -7,3 +7,8 @@ forget_all-requires-clause-each c = λ id some. c.law_forgets_little.ensures.eac
 
 pub forget_all-requires-clause-once : goal.forget_all-requires-clause-once
 forget_all-requires-clause-once c = λ id. c.law_forgets_little.ensures.once _ _ _ id c.in_ok-ids.ensures.named
+
+pub returns-clause-keeps : goal.returns-clause-keeps
+returns-clause-keeps c =
+    let k = keeps_more _ _ _ c.forget_all.ensures.keeps c.compact.ensures.keeps in
+    record { learns = k.learns; standing = k.standing; within = k.within; declared = k.declared; decided = k.decided; size = k.size }

@@ -24,6 +24,25 @@ loop-found-init c =
       counted = counts_start c.args.state.now.tally.total c.start.new.self (ap (λ t. t.total) c.start.ensures) (ap (λ t. t.count) c.start.ensures) c.total.ensures.range.bounded;
     }
 
+pub loop-found-preserved : goal.loop-found-preserved
+loop-found-preserved c =
+    let turn = c.in_ok-take_turn.ensures in
+    let before = c.loop-found.invariant in
+    let next = rw c.in-Goes.is at turn.turn in
+    record {
+      stands = next.stands;
+      passed = turn.passed;
+      keeps = keeps_more _ _ _ before.keeps turn.keeps;
+      budget = turn.budget ∙ before.budget;
+      counted = turn.counts _ before.counted;
+    }
+
+pub returns-in_err-take_turn-clause-keeps : goal.returns-in_err-take_turn-clause-keeps
+returns-in_err-take_turn-clause-keeps c = keeps_more _ _ _ c.loop-found.invariant.keeps c.in_err-take_turn.ensures.keeps
+
+pub returns-in-Ends-clause-keeps : goal.returns-in-Ends-clause-keeps
+returns-in-Ends-clause-keeps c = keeps_more _ _ _ c.loop-found.invariant.keeps c.in_ok-take_turn.ensures.keeps
+
 pub returns-in-Ends-clause-found : goal.returns-in-Ends-clause-found
 returns-in-Ends-clause-found c =
     found_before c.args.assumptions.now c.args.state.now c.loop-found.state c.take_turn.new.state c.loop-found.invariant.keeps c.in-Ends.found (rw c.in-Ends.is at c.in_ok-take_turn.ensures.turn)

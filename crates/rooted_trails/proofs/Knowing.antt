@@ -1,0 +1,28 @@
+-- What is known, and the clauses of a store: as long as everything is admitted, each says what the other does.
+use Rattle.std.proofs.Common.{◌≡◌, ℕ, List, refl, Option}
+use Rattle.sat_terms.specs.Truth.{Assignment, Implies}
+use Rattle.sat_terms.specs.Answer.{IsCore}
+use Rattle.clause_store.specs.Stored.{Stored, StoreTrue}
+use Rattle.rooted_trails.specs.Known.{Known}
+
+pub known : (s : List (Option Stored)) (f : Assignment) → StoreTrue s f → Known s f
+known s f sat = record { clauses = sat; admitted = refl }
+
+pub from_known : (s : List (Option Stored)) (f : Assignment) → Known s f → StoreTrue s f
+from_known s f k = k.clauses
+
+-- where one store's clauses make another's true, what is known of the one is known of the other
+pub known_more : (s s' : List (Option Stored)) (f : Assignment) → (StoreTrue s f → StoreTrue s' f) → Known s f → Known s' f
+known_more s s' f more k = record { clauses = more k.clauses; admitted = k.admitted }
+
+-- what follows from all that is known follows from the clauses
+pub implied_known : (s : List (Option Stored)) (c : List ℕ) → Implies (Known s) c → Implies (StoreTrue s) c
+implied_known s c implied f sat = implied f (known s f sat)
+
+-- and so do cores
+pub core_known : (s : List (Option Stored)) (assumptions core : List ℕ) → IsCore (Known s) assumptions core → IsCore (StoreTrue s) assumptions core
+core_known s assumptions core h = record {
+  some = h.some;
+  once = h.once;
+  none = λ f sat. h.none f (known s f sat);
+}
