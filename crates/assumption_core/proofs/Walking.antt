@@ -14,8 +14,9 @@ use Rattle.trail_state.specs.declared.reason.Reason.TheVariants.{Clause}
 use Rattle.trail_state.specs.Trail.{step, true_on, IsTrail, IsStart}
 use Rattle.trail_state.specs.Clauses.{FalseOn}
 use Rattle.rooted_trails.specs.Known.{Known}
-use Rattle.rooted_trails.specs.Rooted.{RootedBy, Rooted}
+use Rattle.rooted_trails.specs.Rooted.{Rooted}
 use Rattle.rooted_trails.specs.Marks.{flag, RootFollows, BlockedCore, Grows}
+use Rattle.rooted_trails.proofs.Rooting.{RootedBy}
 use Rattle.rooted_trails.proofs.Reasons.{live_implied, root_follows, rooted_above}
 use Rattle.rooted_trails.proofs.Blocking.{root_fewer, core_start, core_step, core_end}
 use Rattle.assumption_core.specs.declared.cores.CoreStart.{CoreStart}

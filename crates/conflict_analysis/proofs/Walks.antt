@@ -10,8 +10,9 @@ use Rattle.trail_state.specs.declared.reason.Reason.TheVariants.{Decision}
 use Rattle.trail_state.specs.Trail.{step, reason_on, IsTrail}
 use Rattle.trail_state.proofs.Levels.{rising, below_top, opens}
 use Rattle.trail_state.proofs.Places.{place_apart, reason_at}
-use Rattle.rooted_trails.specs.Rooted.{Rooted, RootedBy}
+use Rattle.rooted_trails.specs.Rooted.{Rooted}
 use Rattle.rooted_trails.specs.Marks.{flag, RootFollows, Covered, Grows}
+use Rattle.rooted_trails.proofs.Rooting.{RootedBy}
 use Rattle.rooted_trails.proofs.Reasons.{rooted_above}
 use Rattle.rooted_trails.proofs.Blocking.{blocked_step, blocked_skip}
 use Rattle.conflict_analysis.specs.Walking.{is_open, open_count, Marked, Resolving, IsUip}

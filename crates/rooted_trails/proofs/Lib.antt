@@ -1,4 +1,5 @@
 pub mod Knowing
+pub mod Rooting
 pub mod Falses
 pub mod Reasons
 pub mod Blocking

@@ -16,9 +16,10 @@ use Rattle.trail_state.proofs.Changes.{step_old, step_new, old_or_new}
 use Rattle.trail_state.proofs.Backing.{step_take}
 use Rattle.trail_state.proofs.Levels.{decided}
 use Rattle.rooted_trails.specs.Known.{Known}
-use Rattle.rooted_trails.specs.Rooted.{RootedBy, Rooted}
+use Rattle.rooted_trails.specs.Rooted.{Rooted}
 use Rattle.rooted_trails.specs.Marks.{RootFollows}
 use Rattle.rooted_trails.proofs.Knowing.{from_known}
+use Rattle.rooted_trails.proofs.Rooting.{RootedBy, rooted_each, rooted_from}
 use Rattle.rooted_trails.proofs.Falses.{place_in_front, false_by_neg, resolved}
 
 -- a live clause is implied
@@ -27,7 +28,7 @@ live_implied s id live f h = from_known s f h id live
 
 -- above the root a step has its reason
 pub rooted_above : (s : List (Option Stored)) (t : List Step) (i : ℕ) → Rooted s t → i < length t → 0 < (step t i).level → RootedBy s t i (step t i).reason
-rooted_above s t i rooted in' pos = elim (rooted i in') [ inl r ↦ r | inr u ↦ absurd (let z = u.0 in omega arith) ]
+rooted_above s t i rooted in' pos = elim (rooted_each s t rooted i in') [ inl r ↦ r | inr u ↦ absurd (let z = u.0 in omega arith) ]
 
 -- a literal follows from its reason and the literals before it
 pub follows_by_reason : (F : Assignment → Type 0) (t : List Step) (j : ℕ) (c : List ℕ) → Implies F c → IsReason c t j → (f : Assignment) → F f
@@ -44,7 +45,7 @@ root_by s t j Theory n h f sat before = absurd h
 -- the literals of the root of a rooted trail follow from what is known
 pub root_follows : (s : List (Option Stored)) (t : List Step) (top : ℕ) → Rooted s t → IsTrail t top → RootFollows (Known s) t
 root_follows s t top rooted shape j in' z f sat before =
-    elim (rooted j in') [
+    elim (rooted_each s t rooted j in') [
       | inl r ↦ root_by s t j (step t j).reason (λ e. let d = decided 0 t top shape.levels j in' e in absurd (omega arith)) r f sat before
       | inr u ↦ resolved f (slot_lits (slot s u.1.0)) (step t j).lit (live_implied s u.1.0 u.1.1 f sat) (λ l m n.
           absurd (n (sym (only (step t j).lit l (rw u.1.2 at m)))))
@@ -66,15 +67,20 @@ reason_kept s t x i Theory in' h = absurd h
 
 -- one step more
 pub rooted_push : (s : List (Option Stored)) (t : List Step) (x : Step) → Rooted s t → RootedBy s (t ++ x ∷ []) (length t) x.reason → Rooted s (t ++ x ∷ [])
-rooted_push s t x rooted here i in' =
+rooted_push s t x rooted here =
+    rooted_from s (t ++ x ∷ []) (λ i in'.
     elim (old_or_new t x i in') [
       | inl old ↦
-          elim (rooted i old) [
+          elim (rooted_each s t rooted i old) [
             | inl r ↦ inl (rw (step_old t x i old) (reason_kept s t x i (step t i).reason old r))
             | inr u ↦ inr (rw (step_old t x i old) u)
           ]
       | inr e ↦ inl (rw (e, step_new t x) here)
-    ]
+    ])
+
+-- a decision needs no reason
+pub rooted_decided : (s : List (Option Stored)) (t : List Step) (l level : ℕ) → Rooted s t → Rooted s (t ++ record { lit = l; level = level; reason = Decision } ∷ [])
+rooted_decided s t l level rooted = rooted_push s t (record { lit = l; level = level; reason = Decision }) rooted tt
 
 -- a unit clause is a reason for its literal
 pub unit_reason : (s : List (Option Stored)) (t : List Step) (x : Step) (id : ℕ) → IsSome (slot s id) → IsUnit t (slot_lits (slot s id)) x.lit → RootedBy s (t ++ x ∷ []) (length t) (Clause id)
@@ -101,11 +107,12 @@ reason_filled old new id c fills t i (Clause k) h = rw (live_filled old new id c
 reason_filled old new id c fills t i Theory h = absurd h
 
 pub rooted_filled : (old new : List (Option Stored)) (id : ℕ) (c : Stored) → Fills old new id c → (t : List Step) → Rooted old t → Rooted new t
-rooted_filled old new id c fills t rooted i in' =
-    elim (rooted i in') [
+rooted_filled old new id c fills t rooted =
+    rooted_from new t (λ i in'.
+    elim (rooted_each old t rooted i in') [
       | inl r ↦ inl (reason_filled old new id c fills t i (step t i).reason r)
       | inr u ↦ inr (u.0, (u.1.0, rw (live_filled old new id c fills u.1.0 u.1.1) u.1.1, rw (live_filled old new id c fills u.1.0 u.1.1) u.1.2))
-    ]
+    ])
 
 -- reasons on a front of the trail
 reason_front : (s : List (Option Stored)) (t : List Step) (k i : ℕ) (r : Reason) → i < k → RootedBy s t i r → RootedBy s (take k t) i r
@@ -120,13 +127,14 @@ reason_front s t k i (Clause id) lt h = (
 reason_front s t k i Theory lt h = absurd h
 
 pub rooted_front : (s : List (Option Stored)) (t : List Step) (k : ℕ) → k ≤ length t → Rooted s t → Rooted s (take k t)
-rooted_front s t k le rooted i in' =
+rooted_front s t k le rooted =
+    rooted_from s (take k t) (λ i in'.
     let size = length-take-le k t le in
     let lt : i < k = omega arith in
-    elim (rooted i (omega arith)) [
+    elim (rooted_each s t rooted i (omega arith)) [
       | inl r ↦ inl (rw (step_take t k i lt) (reason_front s t k i (step t i).reason lt r))
       | inr u ↦ inr (rw (step_take t k i lt) u)
-    ]
+    ])
 
 -- a trail that went back is rooted as before
 pub rooted_back : (s : List (Option Stored)) (old new : Trace) (level : ℕ) → IsBack old new level → Rooted s old.steps → Rooted s new.steps

@@ -12,7 +12,7 @@ use Rattle.trail_state.specs.Trail.{Trace, true_on}
 use Rattle.trail_state.proofs.Changes.{step_old, step_new, old_or_new}
 use Rattle.trail_state.proofs.Ranks.{rank-push}
 use Rattle.rooted_trails.specs.Rooted.{Rooted}
-use Rattle.rooted_trails.proofs.Reasons.{rooted_push}
+use Rattle.rooted_trails.proofs.Reasons.{rooted_decided}
 use Rattle.watch_lists.specs.Propagation.{Watching, Follows}
 use Rattle.assumption_core.specs.Core.{DecidesAssumed}
 use Rattle.search_engine.specs.declared.state.Core.{Core}
@@ -85,7 +85,7 @@ decides old o t l declared steps orderly dec = record { store = refl; watches = 
 
 module _ (assumptions : List ℕ) (old new : Core) (l : ℕ) (d : Decides old new l) where
   pub decided_rooted : Rooted old.store old.trail.steps → Rooted new.store new.trail.steps
-  decided_rooted rooted = rw (d.store, d.steps) (rooted_push old.store old.trail.steps (decision l old.trail.level) rooted tt)
+  decided_rooted rooted = rw (d.store, d.steps) (rooted_decided old.store old.trail.steps l (old.trail.level + 1) rooted)
 
   pub decided_ready : GoesOn old.watches → IsReady assumptions old → IsReady assumptions new
   decided_ready goes ready = record {

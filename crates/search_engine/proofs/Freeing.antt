@@ -10,7 +10,8 @@ use Rattle.trail_state.specs.declared.reason.Reason.{Reason}
 use Rattle.trail_state.specs.declared.reason.Reason.TheVariants.{Decision, Clause, Theory}
 use Rattle.trail_state.specs.Trail.{step}
 use Rattle.rooted_trails.proofs.Knowing.{known_more}
-use Rattle.rooted_trails.specs.Rooted.{Rooted, RootedBy, RootedAt, HasUnit}
+use Rattle.rooted_trails.specs.Rooted.{Rooted}
+use Rattle.rooted_trails.proofs.Rooting.{RootedBy, RootedAt, HasUnit, rooted_each, rooted_from}
 use Rattle.watch_lists.specs.Propagation.{Watching, Follows}
 use Rattle.search_policy.specs.Reduction.{names, IsForgettable}
 use Rattle.search_engine.specs.declared.state.Core.{Core}
@@ -46,7 +47,7 @@ module _ (s s' : List (Option Stored)) (t : List Step) (gone : List ℕ) (frees 
   rooted_at_freed i in' (inr u) = inr (u.0, unit_freed (step t i).lit u.1)
 
   pub rooted_freed : Rooted s t → Rooted s' t
-  rooted_freed rooted i in' = rooted_at_freed i in' (rooted i in')
+  rooted_freed rooted = rooted_from s' t (λ i in'. rooted_at_freed i in' (rooted_each s t rooted i in'))
 
   pub learns_freed : Learns s s'
   learns_freed = record {
@@ -118,7 +119,7 @@ module _ (s s' : List (Option Stored)) (same : SameSlots s s') where
   rooted_at_same t i (inr u) = let unit = u.1 in inr (u.0, (unit.0, rw (same unit.0) unit.1, rw (same unit.0) unit.2))
 
   pub rooted_same : (t : List Step) → Rooted s t → Rooted s' t
-  rooted_same t rooted i in' = rooted_at_same t i (rooted i in')
+  rooted_same t rooted = rooted_from s' t (λ i in'. rooted_at_same t i (rooted_each s t rooted i in'))
 
   pub learns_slots : Learns s s'
   learns_slots = record {

@@ -10,7 +10,8 @@ use Rattle.trail_state.specs.declared.reason.Reason.{Reason}
 use Rattle.trail_state.specs.declared.reason.Reason.TheVariants.{Decision, Clause, Theory}
 use Rattle.trail_state.specs.Trail.{Trace, step, no_step, IsTrail}
 use Rattle.trail_state.proofs.Levels.{decided, below_top}
-use Rattle.rooted_trails.specs.Rooted.{RootedBy, RootedAt, Rooted}
+use Rattle.rooted_trails.specs.Rooted.{Rooted}
+use Rattle.rooted_trails.proofs.Rooting.{RootedBy, RootedAt, rooted_each, rooted_from}
 use Rattle.watch_lists.specs.Propagation.{Watching, Follows, Grown}
 use Rattle.trail_state.proofs.Longer.{reason_longer}
 use Rattle.search_engine.proofs.Orders.{orderly_longer}
@@ -55,14 +56,15 @@ rooted_at_longer s t more i in' (inr u) = inr (rw (get_or_append_left t more no_
 
 -- a trail that propagation let grow is rooted
 pub rooted_grown : (ids : List ℕ) (s : List (Option Stored)) (old new : Trace) → AttachesLive ids s → Grown ids s old new → Rooted s old.steps → Rooted s new.steps
-rooted_grown ids s old new attached g rooted i in' =
+rooted_grown ids s old new attached g rooted =
+    rooted_from s new.steps (λ i in'.
     elim (cases_lt i (length old.steps)) [
-      | inl lt ↦ rw g.steps (rooted_at_longer s old.steps g.tail i lt (rooted i lt))
+      | inl lt ↦ rw g.steps (rooted_at_longer s old.steps g.tail i lt (rooted_each s old.steps rooted i lt))
       | inr ge ↦
           let h = g.implied i ge in' in
           let live : IsSome (slot s h.by) = sym (attached h.by) ∙ h.attached in
           inl (rw h.reason (live, h.implied))
-    ]
+    ])
 
 -- propagation decides nothing
 pub first_grown : (assumptions ids : List ℕ) (s : List (Option Stored)) (old new : Trace) → Grown ids s old new → AssumesFirst assumptions old.steps → AssumesFirst assumptions new.steps

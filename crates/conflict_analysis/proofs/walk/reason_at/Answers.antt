@@ -1,5 +1,5 @@
 use Rattle.std.proofs.Common.{◌≡◌, ◌∙◌, sym}
-use Rattle.rooted_trails.specs.Rooted.{RootedBy}
+use Rattle.rooted_trails.proofs.Rooting.{RootedBy}
 use Rattle.rooted_trails.proofs.Reasons.{rooted_above}
 use Rattle.conflict_analysis.proofs.walk.reason_at.Goals as goal
 use Rattle.conflict_analysis.proofs.walk.reason_at.Goals.{After-reason_at}
