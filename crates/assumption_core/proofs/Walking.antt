@@ -1,24 +1,23 @@
 -- What stays blocked along the walk, and what its end says.
 use Rattle.std.proofs.Common.{◌≡◌, ℕ, ◌+◌, ◌<◌, ◌≤◌, Bool, true, false, eqb, List, [], ◌∷◌, length, take, inl, inr, refl, sym, ◌∙◌, subst, arith, add-one, Option, Some, None}
-use Rattle.std.specs.Prelude.{IsSome, IfOk, Result, Ok, Err}
+use Rattle.std.specs.Prelude.{IsSome, IsTrue, ◌↔◌, IfOk, Result, Ok, Err}
 use Rattle.std.proofs.lemmas.Bool.{false≢true, or_cases, or_left, eqb-true, eq-eqb, cases_lt, and_parts}
 use Rattle.std.proofs.lemmas.List.{take_all, get_or_past}
 use Rattle.std.proofs.Math.Bool.{or-false}
 use Rattle.sat_terms.specs.Literal.{has, neg}
-use Rattle.sat_terms.specs.Truth.{Assignment, lit_true, lits_true}
+use Rattle.sat_terms.specs.Truth.{Assignment, lit_true, lits_true, Implies}
 use Rattle.sat_terms.specs.Answer.{IsCore}
 use Rattle.sat_terms.proofs.Truths.{clause_true-from}
 use Rattle.clause_store.specs.Stored.{Stored, slot, slot_lits}
 use Rattle.trail_state.specs.declared.trail.Step.{Step}
-use Rattle.trail_state.specs.declared.reason.Reason.TheVariants.{Clause}
+use Rattle.trail_state.specs.declared.reason.Reason.TheVariants.{Decision}
 use Rattle.trail_state.specs.Trail.{step, true_on, IsTrail, IsStart}
-use Rattle.trail_state.specs.Clauses.{FalseOn}
+use Rattle.trail_state.specs.Clauses.{FalseOn, IsReason}
 use Rattle.rooted_trails.specs.Known.{Known}
-use Rattle.rooted_trails.specs.Rooted.{Rooted}
+use Rattle.rooted_trails.specs.Rooted.{Rooted, IsImpliedAt}
 use Rattle.rooted_trails.specs.Marks.{flag, RootFollows, BlockedCore, Grows}
-use Rattle.rooted_trails.proofs.Rooting.{RootedBy}
-use Rattle.rooted_trails.proofs.Reasons.{live_implied, root_follows, rooted_above}
-use Rattle.rooted_trails.proofs.Blocking.{root_fewer, core_start, core_step, core_end}
+use Rattle.rooted_trails.proofs.Reasons.{live_implied, root_follows}
+use Rattle.rooted_trails.proofs.Blocking.{root_fewer, core_start, core_step, core_keep, core_end}
 use Rattle.assumption_core.specs.declared.cores.CoreStart.{CoreStart}
 use Rattle.assumption_core.specs.declared.cores.CoreStart.TheVariants.{Falsified, Conflict}
 use Rattle.assumption_core.specs.Core.{Both, Starts, DecidesAssumed, asks, falsified_by}
@@ -32,13 +31,10 @@ module _ (s : List (Option Stored)) (t : List Step) (top : ℕ) (rooted : Rooted
   on_front : (l : ℕ) → true_on t l ≡ true → true_on (take (length t) t) l ≡ true
   on_front l h = rw (take_all (length t) t (omega arith)) h
 
-  -- a marked place whose reason is a clause
-  pub core_resolved : (id i : ℕ) (c : List ℕ) (seen seen' : List Bool) → IsMarked t seen → i < length t → flag seen i ≡ true → Clause id ≡ (step t i).reason → c ≡ slot_lits (slot s id)
-      → Grows seen seen' → CoversAll t seen' c → BlockedCore (Both s test) t seen (i + 1) → BlockedCore (Both s test) t seen' i
-  core_resolved id i c seen seen' m in' on reason is grows covers b =
-      let r : RootedBy s t i (Clause id) = subst (RootedBy s t i) (sym reason) (rooted_above s t i rooted in' (m.above i on)) in
-      let covers' : CoversAll t seen' (slot_lits (slot s id)) = rw is at covers in
-      core_step (Both s test) t top root shape (slot_lits (slot s id)) seen seen' i (λ f h. live_implied s id r.0 f h.0) (rw add-one at b) grows (λ l k n. covers' l i k (r.1.others l k n))
+  -- a place gives its mark to the literals of its reason
+  pub core_resolved : (i : ℕ) (c : List ℕ) (seen seen' : List Bool) → Implies (Known s) c → IsReason c t i → Grows seen seen' → CoversAll t seen' c → BlockedCore (Both s test) t seen (i + 1) → BlockedCore (Both s test) t seen' i
+  core_resolved i c seen seen' implied reason grows covers b =
+      core_step (Both s test) t top root shape c seen seen' i (λ f h. implied f h.0) (rw add-one at b) grows (λ l k n. covers l i k (reason.others l k n))
 
   -- a clause that is false
   pub core_of_clause : (id : ℕ) (c : List ℕ) (seen : List Bool) → IsSome (slot s id) → FalseOn t (slot_lits (slot s id)) → c ≡ slot_lits (slot s id) → CoversAll t seen c
@@ -46,6 +42,18 @@ module _ (s : List (Option Stored)) (t : List Step) (top : ℕ) (rooted : Rooted
   core_of_clause id c seen live off is covers =
       let covers' : CoversAll t seen (slot_lits (slot s id)) = rw is at covers in
       core_start (Both s test) t top root shape (slot_lits (slot s id)) seen (length t) (λ f h. live_implied s id live f h.0) (λ l k. covers' l (length t) k (on_front (neg l) (off l k)))
+
+-- a marked place that was not decided
+pub implied_place : (t : List Step) (seen : List Bool) (i : ℕ) (told : Bool) → IsMarked t seen → i < length t → flag seen i ≡ true → IsTrue told ↔ ((step t i).reason ≡ Decision) → told ≡ false → IsImpliedAt t i
+implied_place t seen i told m in' on says no' = record {
+  within = in';
+  above = m.above i on;
+  implied = λ dec. false≢true (sym no' ∙ says.1 dec);
+}
+
+-- a decision keeps its mark
+pub decided_stays : (F : Assignment → Type 0) (t : List Step) (seen : List Bool) (i : ℕ) (told : Bool) → IsTrue told ↔ ((step t i).reason ≡ Decision) → told ≡ true → BlockedCore F t seen (i + 1) → BlockedCore F t seen i
+decided_stays F t seen i told says yes' b = core_keep F t seen i (says.0 yes') (rw add-one at b)
 
 -- an assumption that is false
 pub core_of_lit : (s : List (Option Stored)) (t : List Step) (top : ℕ) → Rooted s t → IsTrail t top → (lit : ℕ) (seen : List Bool) → true_on t (neg lit) ≡ true → CoversLit t seen lit

@@ -17,13 +17,13 @@ ghost use Rattle.assumption_core.specs.Core.{Both, Starts, asks, falsified_by};
 ghost use Rattle.assumption_core.specs.Needs.{IsMarked, IsDecided, IsNeeded, Takes, HoldsNeeded};
 
 use crate::cores::CoreStart;
-use crate::places::{decided_at, place_above_root, reason_at};
+use crate::places::{decided_at, is_decision, place_above_root};
 use clause_store::store::Store;
+use rooted_trails::reading::reason_at;
 use sat_model::lists::Lits;
 use sat_model::literal::Lit;
 use sat_model::memory::Memory;
 use std::alloc::Global;
-use trail_state::reason::Reason;
 use trail_state::trail::Trail;
 
 // What a core needs: the falsified assumption, if there is one, and the decisions at the marked
@@ -119,11 +119,10 @@ impl Needs {
         if !self.places[place] {
             return;
         }
-        match reason_at(trail, place) {
-            Reason::Decision => {}
-            Reason::Clause(id) => self.mark_all(trail, store.get(id)),
-            Reason::Theory => unreachable!(),
+        if is_decision(trail, place) {
+            return;
         }
+        self.mark_all(trail, reason_at(store, trail, place));
     }
 
     // Walks back over the trail, until the marked decisions are what the conflict comes from.

@@ -1,8 +1,8 @@
 //! What the trail says of a place.
 //!
-//! A place is where a literal stands on the trail, the oldest at 0: its reason, whether it was
-//! decided there, and where a variable stands if that is above the root.
-ghost use Rattle.std.specs.Prelude.{◌≡◌, ◌≢◌, ◌<◌, ℕ, length, IfSome, IfNone};
+//! A place is where a literal stands on the trail, the oldest at 0: whether it was decided there,
+//! and where a variable stands if that is above the root.
+ghost use Rattle.std.specs.Prelude.{◌≡◌, ◌≢◌, ◌<◌, ℕ, length, IfSome, IfNone, IsTrue, ◌↔◌};
 ghost use Rattle.sat_terms.specs.Literal.{var_of};
 ghost use Rattle.trail_state.specs.Trail.{step};
 ghost use Rattle.trail_state.specs.declared.reason.Reason.TheVariants.{Decision};
@@ -28,13 +28,17 @@ pub(crate) fn place_above_root(trail: &Trail, var: Var) -> Option<usize>
     }
 }
 
-// Why the literal at a place stands there.
-pub(crate) fn reason_at(trail: &Trail, place: usize) -> Reason
+// Whether the literal at a place was decided.
+pub(crate) fn is_decision(trail: &Trail, place: usize) -> bool
     requires { place < length trail.now.steps }
-    ensures { result ≡ (step trail.now.steps place).reason }
+    ensures { IsTrue result ↔ ((step trail.now.steps place).reason ≡ Decision) }
 {
     trail.law_room();
-    trail.reason_at(place as u32)
+    match trail.reason_at(place as u32) {
+        Reason::Decision => true,
+        Reason::Clause(_id) => false,
+        Reason::Theory => false,
+    }
 }
 
 // The place where a literal was decided, if it was.
@@ -49,9 +53,9 @@ pub(crate) fn decided_at(trail: &Trail, lit: Lit) -> Option<usize>
     if trail.lits()[place] != lit {
         return None;
     }
-    match reason_at(trail, place) {
-        Reason::Decision => Some(place),
-        Reason::Clause(_id) => None,
-        Reason::Theory => None,
+    if is_decision(trail, place) {
+        Some(place)
+    } else {
+        None
     }
 }

@@ -1,14 +1,11 @@
 -- The literals that an analysis met are false.
-use Rattle.std.proofs.Common.{◌≡◌, ℕ, zero, suc, Option, true, eqb, List, [], ◌∷◌, ◌++◌, take, drop, inl, inr, subst, ◌∙◌}
-use Rattle.std.proofs.lemmas.Bool.{false≢true, or_left, or_right, eqb-true}
+use Rattle.std.proofs.Common.{◌≡◌, ℕ, true, eqb, List, [], ◌∷◌, ◌++◌, take, drop, inl, inr, subst, ◌∙◌}
+use Rattle.std.proofs.lemmas.Bool.{false≢true, or_left, eqb-true}
 use Rattle.std.proofs.lemmas.List.{take-append-drop}
 use Rattle.std.proofs.lemmas.List.Folds.{list_any-append}
 use Rattle.std.proofs.Math.Bool.{or-false}
 use Rattle.sat_terms.specs.Literal.{has, neg}
-use Rattle.std.specs.Prelude.{IsSome}
 use Rattle.sat_terms.proofs.Members.{has-append_cases}
-use Rattle.clause_store.specs.Stored.{Stored, slot, slot_lits}
-use Rattle.conflict_analysis.specs.Learning.{stands_in}
 use Rattle.trail_state.specs.declared.trail.Step.{Step}
 use Rattle.trail_state.specs.Trail.{true_on}
 use Rattle.trail_state.specs.Clauses.{FalseOn}
@@ -28,9 +25,3 @@ met_more t c l below off h k m =
 -- none is false
 pub met_none : (t : List Step) (c : List ℕ) → c ≡ [] → FalseOn t c
 met_none t c e l h = absurd (false≢true (rw e at h))
-
--- a literal of a live clause stands in one
-pub stands_of : (s : List (Option Stored)) (id l : ℕ) → IsSome (slot s id) → has (slot_lits (slot s id)) l ≡ true → stands_in s l ≡ true
-stands_of [] id l live h = absurd (false≢true live)
-stands_of (x ∷ s) zero l live h = or_left (has (slot_lits x) l) (stands_in s l) h
-stands_of (x ∷ s) (suc id) l live h = or_right (has (slot_lits x) l) (stands_in s l) (stands_of s id l live h)

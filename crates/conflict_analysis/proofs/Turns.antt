@@ -1,22 +1,23 @@
 -- The walk of a scratch down the trail.
-use Rattle.std.proofs.Common.{◌≡◌, ◌≢◌, ℕ, suc, ◌+◌, ◌-◌, ◌<◌, ◌≤◌, Bool, true, false, List, [], length, take, ◌⊎◌, inl, inr, sym, ap, ◌∙◌, subst, arith, add-one, Option}
+use Rattle.std.proofs.Common.{◌≡◌, ℕ, suc, ◌+◌, ◌-◌, ◌<◌, ◌≤◌, Bool, true, false, List, [], length, take, ◌⊎◌, inl, inr, sym, ap, ◌∙◌, subst, arith, add-one, Option}
 use Rattle.std.specs.Prelude.{IsSome}
 use Rattle.std.proofs.lemmas.Bool.{false≢true, cases_eq}
 use Rattle.std.proofs.lemmas.List.{take_all}
 use Rattle.sat_terms.specs.Literal.{has, neg, var_of}
+use Rattle.sat_terms.specs.Truth.{Implies}
 use Rattle.clause_store.specs.Stored.{Stored, slot, slot_lits}
-use Rattle.trail_state.specs.declared.reason.Reason.TheVariants.{Decision}
 use Rattle.trail_state.specs.Trail.{Trace, step, true_on, IsTrail, HasRoom}
 use Rattle.trail_state.specs.Clauses.{FalseOn, IsReason}
-use Rattle.rooted_trails.specs.Known.{Known}
-use Rattle.rooted_trails.specs.Rooted.{Rooted}
+use Rattle.rooted_trails.specs.Known.{Known, AllStandIn}
+use Rattle.rooted_trails.specs.Rooted.{Rooted, IsImpliedAt}
 use Rattle.rooted_trails.specs.Marks.{flag, Covered, Grows}
+use Rattle.rooted_trails.proofs.Knowing.{stands_of}
 use Rattle.rooted_trails.proofs.Reasons.{live_implied, root_follows}
-use Rattle.conflict_analysis.specs.Learning.{AllStandIn, Reaches}
+use Rattle.conflict_analysis.specs.Learning.{Reaches}
 use Rattle.conflict_analysis.specs.Walking.{Resolvent, marks_on, IsMarking, Resolving, IsResolving, IsResolved}
 use Rattle.conflict_analysis.proofs.Walks.{no_decision, marked_down, resolving_step, resolving_skip, resolving_pos, uip_here}
 use Rattle.conflict_analysis.proofs.Learns.{marked_none, resolving_start}
-use Rattle.conflict_analysis.proofs.Mets.{met_none, stands_of}
+use Rattle.conflict_analysis.proofs.Mets.{met_none}
 use Rattle.conflict_analysis.proofs.Variables.{marks_length, marks_read, marks_off, marks_grow}
 
 -- nothing is marked
@@ -29,12 +30,8 @@ marking_none tr r wide off count lits met = record {
 }
 
 -- what was met stands in live clauses
-pub stands_more : (s : List (Option Stored)) (id : ℕ) (c met met' : List ℕ) → IsSome (slot s id) → c ≡ slot_lits (slot s id) → AllStandIn s met → ((l : ℕ) → has met' l ≡ true → (has met l ≡ true) ⊎ (has c l ≡ true)) → AllStandIn s met'
-stands_more s id c met met' live is old from l h =
-    elim (from l h) [
-      | inl a ↦ old l a
-      | inr b ↦ stands_of s id l live (rw is at b)
-    ]
+stands_more : (s : List (Option Stored)) (c met met' : List ℕ) → AllStandIn s c → AllStandIn s met → ((l : ℕ) → has met' l ≡ true → (has met l ≡ true) ⊎ (has c l ≡ true)) → AllStandIn s met'
+stands_more s c met met' there old from l h = elim (from l h) [ inl a ↦ old l a | inr b ↦ there l b ]
 
 -- the literals of the false clause are marked
 pub resolving_begin : (s : List (Option Stored)) (tr : Trace) (id : ℕ) (c : List ℕ) (r : Resolvent) → Rooted s tr.steps → IsTrail tr.steps tr.level → IsSome (slot s id) → c ≡ slot_lits (slot s id) → 0 < tr.level
@@ -49,7 +46,7 @@ resolving_begin s tr id c r rooted shape live is above reaches off m covered fro
           (λ l h. covered l h (rw all (off l h)));
       met_all = m.met_all;
       met_false = m.met_false;
-      from = stands_more s id c [] r.met live is (λ l h. absurd (false≢true h)) from;
+      from = stands_more s c [] r.met (λ l h. stands_of s id l live (rw is at h)) (λ l h. absurd (false≢true h)) from;
     }
 
 module _ (s : List (Option Stored)) (tr : Trace) (i : ℕ) (r : Resolvent) (w : IsResolving s tr (i + 1) r) (shape : IsTrail tr.steps tr.level) (in' : i < length tr.steps) where
@@ -66,11 +63,12 @@ module _ (s : List (Option Stored)) (tr : Trace) (i : ℕ) (r : Resolvent) (w : 
     from = w.from;
   }
 
-  pub above_here : flag (marks_on r.seen tr.steps) i ≡ true → 0 < (step tr.steps i).level
-  above_here on = before.marked.above_root i on
-
-  pub implied_here : 1 < r.count → (step tr.steps i).reason ≢ Decision
-  implied_here more = no_decision (Known s) tr.steps tr.level i (marks_on r.seen tr.steps) r.count r.lits before shape in' more
+  pub implied_here : 1 < r.count → flag (marks_on r.seen tr.steps) i ≡ true → IsImpliedAt tr.steps i
+  implied_here more on = record {
+    within = in';
+    above = before.marked.above_root i on;
+    implied = no_decision (Known s) tr.steps tr.level i (marks_on r.seen tr.steps) r.count r.lits before shape in' more;
+  }
 
   -- it is done
   pub marking_down : (r' : Resolvent) → r' ≡ record r { count = r.count - 1 } → 1 < r.count → flag (marks_on r.seen tr.steps) i ≡ true → IsMarking tr i r'
@@ -89,16 +87,16 @@ module _ (s : List (Option Stored)) (tr : Trace) (i : ℕ) (r : Resolvent) (w : 
         | inr n ↦ reason.others l h n
       ]
 
-  pub resolving_next : (id : ℕ) (c : List ℕ) (r' : Resolvent) → Rooted s tr.steps → 1 < r.count → IsSome (slot s id) → c ≡ slot_lits (slot s id) → IsReason c tr.steps i → IsMarking tr i r' → Grows r.seen r'.seen
+  pub resolving_next : (c : List ℕ) (r' : Resolvent) → Rooted s tr.steps → 1 < r.count → Implies (Known s) c → AllStandIn s c → IsReason c tr.steps i → IsMarking tr i r' → Grows r.seen r'.seen
       → ((l : ℕ) → has c l ≡ true → true_on (take i tr.steps) (neg l) ≡ true → Covered tr.steps (marks_on r'.seen tr.steps) i l)
       → ((l : ℕ) → has r'.met l ≡ true → (has r.met l ≡ true) ⊎ (has c l ≡ true)) → IsResolving s tr i r'
-  resolving_next id c r' rooted more live c-is reason m grows covered from = record {
+  resolving_next c r' rooted more implied there reason m grows covered from = record {
     wide = m.wide;
-    resolving = resolving_step (Known s) tr.steps tr.level i (marks_on r.seen tr.steps) r.count r.lits before shape in' c (marks_on r'.seen tr.steps) r'.count r'.lits more (rw c-is (live_implied s id live))
+    resolving = resolving_step (Known s) tr.steps tr.level i (marks_on r.seen tr.steps) r.count r.lits before shape in' c (marks_on r'.seen tr.steps) r'.count r'.lits more implied
         (root_follows s tr.steps tr.level rooted shape) m.marked (marks_grow r.seen r'.seen tr.steps grows) (λ l h n. covered l h (reason.others l h n));
     met_all = m.met_all;
     met_false = m.met_false;
-    from = stands_more s id c r.met r'.met live c-is w.from from;
+    from = stands_more s c r.met r'.met there w.from from;
   }
 
   -- the walk ends

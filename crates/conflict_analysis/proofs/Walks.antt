@@ -3,17 +3,11 @@ use Rattle.std.proofs.Common.{◌≡◌, ◌≢◌, ℕ, suc, ◌+◌, ◌-◌, 
 use Rattle.std.proofs.lemmas.Bool.{cases_eq, eqb-true, eq-eqb, and_parts, and_from}
 use Rattle.sat_terms.specs.Literal.{has, var_of}
 use Rattle.sat_terms.specs.Truth.{Assignment, Implies}
-use Rattle.clause_store.specs.Stored.{Stored}
 use Rattle.trail_state.specs.declared.trail.Step.{Step}
-use Rattle.trail_state.specs.declared.reason.Reason.{Reason}
 use Rattle.trail_state.specs.declared.reason.Reason.TheVariants.{Decision}
-use Rattle.trail_state.specs.Trail.{step, reason_on, IsTrail}
+use Rattle.trail_state.specs.Trail.{step, IsTrail}
 use Rattle.trail_state.proofs.Levels.{rising, below_top, opens}
-use Rattle.trail_state.proofs.Places.{place_apart, reason_at}
-use Rattle.rooted_trails.specs.Rooted.{Rooted}
 use Rattle.rooted_trails.specs.Marks.{flag, RootFollows, Covered, Grows}
-use Rattle.rooted_trails.proofs.Rooting.{RootedBy}
-use Rattle.rooted_trails.proofs.Reasons.{rooted_above}
 use Rattle.rooted_trails.proofs.Blocking.{blocked_step, blocked_skip}
 use Rattle.conflict_analysis.specs.Walking.{is_open, open_count, Marked, Resolving, IsUip}
 use Rattle.conflict_analysis.proofs.Marking.{open_count-some, open_count-pos}
@@ -150,26 +144,3 @@ walk_next F t top i seen count lower in' r =
     let pos = resolving_pos F t top i seen count lower r in
     let e : i ≡ i - 1 + 1 = omega arith in
     (omega arith, subst (λ k. Resolving F t top k seen count lower) e r)
-
--- three facts after a call that may want memory
-pub after_ok : {A E M G C Z : Type 0} (r : Result A E) → OnOk r M → OnOk r G → OnOk r C → (M → G → C → Z) → OnOk r Z
-after_ok (Ok a) m g c f = f m g c
-after_ok (Err e) m g c f = tt
-
--- the reason of a literal above the root
-pub reason_here : (s : List (Option Stored)) (t : List Step) (top i l : ℕ) (r : Reason) → Rooted s t → IsTrail t top → i < length t → 0 < (step t i).level → l ≡ (step t i).lit → reason_on t (var_of l) ≡ Some r
-    → RootedBy s t i r × ((step t i).reason ≡ r)
-reason_here s t top i l r rooted shape in' above is e =
-    let found = reason_at t (var_of l) i (place_apart t (var_of l) i shape.apart in' (ap var_of (sym is))) in
-    let same : (step t i).reason ≡ r = some_same (sym found ∙ e) in
-    (subst (RootedBy s t i) same (rooted_above s t i rooted in' above), same) where
-      some_same : {a b : Reason} → Some a ≡ Some b → a ≡ b
-      some_same e = cc
-
--- there is one
-pub reason_some : (t : List Step) (top i l : ℕ) → IsTrail t top → i < length t → l ≡ (step t i).lit → reason_on t (var_of l) ≡ None → ⊥
-reason_some t top i l shape in' is e =
-    let found = reason_at t (var_of l) i (place_apart t (var_of l) i shape.apart in' (ap var_of (sym is))) in
-    none_some (sym e ∙ found) where
-      none_some : {a : Reason} → None ≡ Some a → ⊥
-      none_some e = cc

@@ -2,20 +2,11 @@
 use Rattle.std.specs.List.{list_any, range_with_len}
 use Rattle.std.specs.Prelude.{◌≡◌, ◌≢◌, ◌<◌, ◌≤◌, ◌+◌, ◌==◌, ◌⊎◌, ◌^◌, min, ℕ, Bool, true, List, Option, Some, unwrap_or, count_by}
 use Rattle.sat_terms.specs.Literal.{has, var_of}
-use Rattle.clause_store.specs.Stored.{Stored, slot_lits}
 use Rattle.trail_state.specs.declared.trail.Step.{Step}
 use Rattle.trail_state.specs.Trail.{level_on}
 use Rattle.conflict_analysis.specs.Counting.{Counted, IsDue}
 use Rattle.conflict_analysis.specs.declared.analysis.AnalyzeStop.{AnalyzeStop}
 use Rattle.conflict_analysis.specs.declared.analysis.AnalyzeStop.TheVariants.{Conflicts, Memory}
-
--- the literal stands in a live clause
-abbrev pub stands_in : List (Option Stored) → ℕ → Bool
-stands_in s l = list_any (λ x. has (slot_lits x) l) s
-
--- each literal of the list does
-abbrev pub AllStandIn : List (Option Stored) → List ℕ → Type 0
-AllStandIn s c = (l : ℕ) → has c l ≡ true → stands_in s l ≡ true
 
 -- the level of a literal, 0 where it has no value
 abbrev pub lit_level : List Step → ℕ → ℕ

@@ -14,9 +14,9 @@ ghost use Rattle.sat_terms.specs.Normal.{IsNormal};
 ghost use Rattle.sat_terms.specs.Truth.{Implies};
 ghost use Rattle.clause_store.specs.Stored.{slot, slot_lits};
 ghost use Rattle.trail_state.specs.Clauses.{FalseOn};
-ghost use Rattle.rooted_trails.specs.Known.{Known};
+ghost use Rattle.rooted_trails.specs.Known.{Known, AllStandIn};
 ghost use Rattle.rooted_trails.specs.Rooted.{Rooted};
-ghost use Rattle.conflict_analysis.specs.Learning.{AllStandIn, Reaches, IsAsserting, Owes, Rises, Stops, glue_of};
+ghost use Rattle.conflict_analysis.specs.Learning.{Reaches, IsAsserting, Owes, Rises, Stops, glue_of};
 ghost use Rattle.conflict_analysis.specs.Walking.{IsResolving};
 
 use crate::levels::highest;

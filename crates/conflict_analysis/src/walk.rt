@@ -12,12 +12,9 @@
 //!
 //! Literals of the root are passed over: they follow from the stored clauses. The learned clause is
 //! not shortened further.
-ghost use Rattle.std.specs.Prelude.{◌≡◌, ◌≢◌, ◌<◌, ◌≤◌, ◌+◌, ◌⊎◌, ◌==◌, ℕ, length, true, false, take, OnOk, IfOk, IsSome};
+ghost use Rattle.std.specs.Prelude.{◌≡◌, ◌<◌, ◌≤◌, ◌+◌, ◌⊎◌, ◌==◌, ℕ, length, true, false, take, OnOk, IfOk};
 ghost use Rattle.sat_terms.specs.Literal.{has, neg, var_of};
-ghost use Rattle.clause_store.specs.Stored.{slot, slot_lits};
-ghost use Rattle.trail_state.specs.Trail.{step, true_on};
-ghost use Rattle.trail_state.specs.Clauses.{IsReason};
-ghost use Rattle.trail_state.specs.declared.reason.Reason.TheVariants.{Decision};
+ghost use Rattle.trail_state.specs.Trail.{true_on};
 ghost use Rattle.rooted_trails.specs.Rooted.{Rooted};
 ghost use Rattle.rooted_trails.specs.Marks.{flag, Covered, Grows};
 ghost use Rattle.conflict_analysis.specs.Walking.{marks_on, IsMarking, IsResolving, IsResolved};
@@ -25,10 +22,9 @@ ghost use Rattle.conflict_analysis.specs.Walking.{marks_on, IsMarking, IsResolvi
 use crate::levels::level_of;
 use crate::scratch::Scratch;
 use clause_store::store::Store;
-use sat_model::lists::ClauseId;
+use rooted_trails::reading::reason_at;
 use sat_model::literal::Lit;
 use sat_model::memory::Memory;
-use trail_state::reason::Reason;
 use trail_state::trail::Trail;
 
 impl Scratch {
@@ -91,9 +87,9 @@ impl Scratch {
             return Ok(());
         }
         self.drop_one();
-        let id = reason_at(store, trail, place);
+        let reason = reason_at(store, trail, place);
         // The literal itself stands in its reason too, and is marked already.
-        self.mark_all(trail, store.get(id), place)?;
+        self.mark_all(trail, reason, place)?;
         Ok(())
     }
 
@@ -131,23 +127,5 @@ impl Scratch {
             place -= 1;
         }
         Ok(place)
-    }
-}
-
-// The clause that is the reason of the literal at a place above the root, where that was not
-// decided.
-fn reason_at(store: &Store, trail: &Trail, i: usize) -> ClauseId
-    requires within { i < length trail.now.steps }
-    requires rooted { Rooted store.now trail.now.steps }
-    requires above { 0 < (step trail.now.steps i).level }
-    requires implied { (step trail.now.steps i).reason ≢ Decision }
-    ensures live { IsSome (slot store.now result) }
-    ensures reason { IsReason (slot_lits (slot store.now result)) trail.now.steps i }
-{
-    trail.law_room();
-    match trail.reason_at(i as u32) {
-        Reason::Clause(id) => id,
-        Reason::Decision => unreachable!(),
-        Reason::Theory => unreachable!(),
     }
 }

@@ -1,9 +1,12 @@
 -- What is known, and the clauses of a store: as long as everything is admitted, each says what the other does.
-use Rattle.std.proofs.Common.{◌≡◌, ℕ, List, refl, Option}
+use Rattle.std.proofs.Common.{◌≡◌, ℕ, zero, suc, true, List, [], ◌∷◌, refl, Option}
+use Rattle.std.specs.Prelude.{IsSome}
+use Rattle.std.proofs.lemmas.Bool.{false≢true, or_left, or_right}
+use Rattle.sat_terms.specs.Literal.{has}
 use Rattle.sat_terms.specs.Truth.{Assignment, Implies}
 use Rattle.sat_terms.specs.Answer.{IsCore}
-use Rattle.clause_store.specs.Stored.{Stored, StoreTrue}
-use Rattle.rooted_trails.specs.Known.{Known}
+use Rattle.clause_store.specs.Stored.{Stored, StoreTrue, slot, slot_lits}
+use Rattle.rooted_trails.specs.Known.{Known, stands_in}
 
 pub known : (s : List (Option Stored)) (f : Assignment) → StoreTrue s f → Known s f
 known s f sat = record { clauses = sat; admitted = refl }
@@ -26,3 +29,9 @@ core_known s assumptions core h = record {
   once = h.once;
   none = λ f sat. h.none f (known s f sat);
 }
+
+-- a literal of a live clause stands in one
+pub stands_of : (s : List (Option Stored)) (id l : ℕ) → IsSome (slot s id) → has (slot_lits (slot s id)) l ≡ true → stands_in s l ≡ true
+stands_of [] id l live h = absurd (false≢true live)
+stands_of (x ∷ s) zero l live h = or_left (has (slot_lits x) l) (stands_in s l) h
+stands_of (x ∷ s) (suc id) l live h = or_right (has (slot_lits x) l) (stands_in s l) (stands_of s id l live h)

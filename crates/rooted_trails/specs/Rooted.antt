@@ -1,7 +1,7 @@
 -- Trails that are rooted in a store: each literal that was not decided has a reason among the clauses. It is a test that
 -- computes, so there is at most one proof of it, and a ghost field can hold that.
 use Rattle.std.specs.List.{list_any, list_all}
-use Rattle.std.specs.Prelude.{◌≡◌, ◌<◌, ◌==◌, ◌&&◌, ◌||◌, ℕ, Bool, true, false, List, [], ◌∷◌, length, take, Option, Some, None, is_some}
+use Rattle.std.specs.Prelude.{◌≡◌, ◌≢◌, ◌<◌, ◌==◌, ◌&&◌, ◌||◌, ℕ, Bool, true, false, List, [], ◌∷◌, length, take, Option, Some, None, is_some}
 use Rattle.sat_terms.specs.Literal.{has, neg}
 use Rattle.clause_store.specs.Stored.{Stored, slot, slot_lits}
 use Rattle.trail_state.specs.declared.trail.Step.{Step}
@@ -41,3 +41,15 @@ rooted_at s t i = has_reason s t i (step t i).reason || (((step t i).level == 0)
 -- every step of the trail is rooted
 abbrev pub Rooted : List (Option Stored) → List Step → Type 0
 Rooted s t = (i : ℕ) → i < length t → rooted_at s t i ≡ true
+
+-- the literals of a reason: those of its clause, if that is live
+abbrev pub reason_lits : List (Option Stored) → Reason → List ℕ
+reason_lits s Decision = []
+reason_lits s (Clause id) = slot_lits (slot s id)
+reason_lits s Theory = []
+
+-- a literal stands at the place, above the root, and was not decided
+pub record IsImpliedAt (t : List Step) (i : ℕ) : Type 0 where
+  pub within : i < length t
+  pub above : 0 < (step t i).level
+  pub implied : (step t i).reason ≢ Decision

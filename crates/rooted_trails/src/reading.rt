@@ -1,0 +1,34 @@
+//! The reason of a literal on a trail.
+//!
+//! Both walks over a trail, that of the analysis of conflicts and that of the cores, put for an implied literal the other literals
+//! of its reason. What they need of a reason is said here once: it holds the literal, its other literals are false at earlier
+//! places, and it follows from what is known. So where reasons come from is no matter to the walks.
+ghost use Rattle.std.specs.Prelude.{◌≡◌};
+ghost use Rattle.sat_terms.specs.Truth.{Implies};
+ghost use Rattle.trail_state.specs.Trail.{step};
+ghost use Rattle.trail_state.specs.Clauses.{IsReason};
+ghost use Rattle.rooted_trails.specs.Known.{Known, AllStandIn};
+ghost use Rattle.rooted_trails.specs.Rooted.{Rooted, IsImpliedAt, reason_lits};
+
+use clause_store::store::Store;
+use sat_model::literal::Lit;
+use trail_state::reason::Reason;
+use trail_state::trail::Trail;
+
+/// The reason of the literal at a place: the literals of the clause that implied it. The trail must be rooted in the store, and the
+/// literal must stand above the root and must not have been decided.
+pub fn reason_at<'a>(store: &'a Store, trail: &Trail, place: usize) -> &'a [Lit]
+    requires rooted { Rooted store.now trail.now.steps }
+    requires implied { IsImpliedAt trail.now.steps place }
+    ensures value { result.now ≡ reason_lits store.now (step trail.now.steps place).reason }
+    ensures reason { IsReason result.now trail.now.steps place }
+    ensures known { Implies (Known store.now) result.now }
+    ensures from { AllStandIn store.now result.now }
+{
+    trail.law_room();
+    match trail.reason_at(place as u32) {
+        Reason::Clause(id) => store.get(id),
+        Reason::Decision => unreachable!(),
+        Reason::Theory => unreachable!(),
+    }
+}
