@@ -1,7 +1,7 @@
 -- The walk down the trail.
-use Rattle.std.proofs.Common.{◌≡◌, ◌≢◌, ℕ, suc, ◌+◌, ◌-◌, ◌<◌, ◌≤◌, Bool, true, false, cond, eqb, List, length, inl, inr, sym, ap, ◌∙◌, subst, arith, Option, Some, None, Result, Ok, Err, OnOk}
+use Rattle.std.proofs.Common.{◌≡◌, ◌≢◌, ℕ, suc, ◌+◌, ◌-◌, ◌<◌, ◌≤◌, Bool, true, false, cond, eqb, List, length, inl, inr, subst, arith}
 use Rattle.std.proofs.lemmas.Bool.{cases_eq, eqb-true, eq-eqb, and_parts, and_from}
-use Rattle.sat_terms.specs.Literal.{has, var_of}
+use Rattle.sat_terms.specs.Literal.{has}
 use Rattle.sat_terms.specs.Truth.{Assignment, Implies}
 use Rattle.trail_state.specs.declared.trail.Step.{Step}
 use Rattle.trail_state.specs.declared.reason.Reason.TheVariants.{Decision}

@@ -1,5 +1,5 @@
 -- What the tests of a rooted trail say, in relations that proofs take apart.
-use Rattle.std.proofs.Common.{◌≡◌, ◌≢◌, ℕ, zero, suc, ◌<◌, Bool, true, ◌||◌, ◌&&◌, eqb, List, [], ◌∷◌, length, take, ◌⊎◌, inl, inr, refl, sym, ap, subst, arith, Option, Some, None}
+use Rattle.std.proofs.Common.{◌≡◌, ℕ, zero, suc, ◌<◌, Bool, true, ◌||◌, ◌&&◌, eqb, List, [], ◌∷◌, length, take, ◌⊎◌, inl, inr, refl, sym, ap, subst, Option, Some, None}
 use Rattle.std.specs.List.{list_all}
 use Rattle.std.specs.Prelude.{IsSome}
 use Rattle.std.proofs.lemmas.Bool.{false≢true, or_cases, or_left, or_right, and_parts, and_from, eqb-true, eq-eqb, cases_eq}
