@@ -21,7 +21,7 @@ pub keeps_more : (a b c : Core) → Keeps a b → Keeps b c → Keeps a c
 keeps_more a b c k l = record {
   learns = learns_more (clauses a) (clauses b) (clauses c) k.learns l.learns;
   standing = l.standing;
-  within = rw k.declared at l.within;
+  within = l.within;
   declared = l.declared ∙ k.declared;
   decided = l.decided ∙ k.decided;
   size = l.size ∙ k.size;
@@ -41,7 +41,7 @@ pub keeps_ready : (assumptions : List ℕ) (old new : Core) → IsReady assumpti
 keeps_ready assumptions old new was ready learns same size = record {
   learns = learns;
   standing = ready_standing assumptions new ready;
-  within = rw same at ready.within;
+  within = ready.within;
   declared = same;
   decided = ready.decided ∙ same ∙ sym was.decided;
   size = size;

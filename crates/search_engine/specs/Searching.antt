@@ -79,7 +79,7 @@ pub record Learns (old new : List (Option Stored)) : Type 0 where
 pub record Keeps (old new : Core) : Type 0 where
   pub learns : Learns (clauses old) (clauses new)
   pub standing : IsStanding new
-  pub within : StoreWithin old.trail.declared (clauses new)
+  pub within : StoreWithin new.trail.declared (clauses new)
   pub declared : new.trail.declared ≡ old.trail.declared
   pub decided : new.order.declared ≡ old.order.declared
   pub size : length new.model.items ≡ length old.model.items
