@@ -8,14 +8,13 @@ ghost use Rattle.trail_state.specs.declared.reason.Reason.TheVariants.{Decision}
 ghost use Rattle.assumption_core.specs.Core.{DecidesAssumed};
 
 use crate::cores::{CoreStart, core_of};
-use crate::places::reason_at;
+use crate::places::is_decision;
 use clause_store::store::Store;
 use rooted_scenes::scene::{Scene, is_false, lit, lits};
 use sat_model::lists::{ClauseId, Lits};
 use sat_model::literal::Lit;
 use std::alloc::Global;
 use std::test::Fail;
-use trail_state::reason::Reason;
 use trail_state::trail::Trail;
 
 // What a scene is made of, and its core. The clauses; the literals of the trail, each with the
@@ -56,7 +55,7 @@ fn is_assumed_at(trail: &Trail, place: usize, assumptions: &[Lit]) -> bool
     requires { place < length trail.now.steps }
     ensures { result ≡ true → (step trail.now.steps place).reason ≡ Decision → has assumptions.now (step trail.now.steps place).lit ≡ true }
 {
-    reason_at(trail, place) != Reason::Decision || assumptions.contains(&trail.lits()[place])
+    !is_decision(trail, place) || assumptions.contains(&trail.lits()[place])
 }
 
 // Whether every decision is an assumption.
