@@ -10,8 +10,9 @@ are above 2.3, and whether 50,000 of 100,000 parked clauses are restored in less
     apart N     the same with clauses that share none
     spread N    N clauses are parked, and every second one is restored from the newest to the oldest
 
-Usage: bench/kernel.py [--runs N] [RUN ..]
-    --runs N    takes the best of so many runs (3)
+Usage: bench/kernel.py [--runs N] [--times N] [RUN ..]
+    --runs N    takes the best of so many processes (3)
+    --times N   has each process do a run so many times, since one takes a few hundredths of a second, and prints the mean (5)
     RUN         as 'shared 50000'; the usual ones if none is named
 """
 import argparse
@@ -28,32 +29,35 @@ USUAL = [f"{name} {n}" for name in ("add", "jump") for n in (250_000, 500_000, 1
 ]
 
 
-def measure(line, runs):
-    """The user seconds of a run, its peak of memory in MiB and what it printed; the best of so many runs."""
+def measure(line, runs, times):
+    """The user seconds of a run, the peak of memory in MiB and the lines that were printed; the best of so many processes, of which each does
+    it so many times."""
     best = None
     for _ in range(runs):
         with tempfile.TemporaryFile("w+") as given, tempfile.TemporaryFile("w+") as printed:
-            given.write(line + "\n")
+            given.write((line + "\n") * times)
             given.seek(0)
             child = subprocess.Popen([PROGRAM], stdin=given, stdout=printed, stderr=subprocess.DEVNULL)
             _, status, used = os.wait4(child.pid, 0)
             child.returncode = status
             printed.seek(0)
-            row = (used.ru_utime, used.ru_maxrss / 1024, printed.read().strip())
+            row = (used.ru_utime / times, used.ru_maxrss / 1024, printed.read().splitlines())
         best = row if best is None or row < best else best
     return best
 
 
-def is_whole(name, count, text):
-    """Whether a run did all that it was asked for: what it prints has as many clauses as it should."""
+def is_whole(name, count, times, lines):
+    """Whether each run did all that it was asked for: what it prints has as many clauses as it should."""
     back = {"add": 0, "jump": 0, "shared": count, "apart": count, "spread": (count + 1) // 2}[name]
     left = 0 if name in ("add", "jump") else count - back
-    return text == f"{name} {count}: {count} came, {count} went, {back} came back; {back} in the store, {left} on the stack"
+    wanted = f"{name} {count}: {count} came, {count} went, {back} came back; {back} in the store, {left} on the stack"
+    return lines == [wanted] * times
 
 
 def main():
     parser = argparse.ArgumentParser(description="Shows how the time of the store and of the kernel grows.")
     parser.add_argument("--runs", type=int, default=3)
+    parser.add_argument("--times", type=int, default=5)
     parser.add_argument("lines", nargs="*", default=USUAL)
     args = parser.parse_args()
     if not os.path.exists(PROGRAM):
@@ -63,14 +67,14 @@ def main():
     seconds, ratios, wrong = {}, {}, 0
     for line in args.lines:
         name, count = line.split()[0], int(line.split()[1])
-        seconds[name, count], peak, text = measure(line, args.runs)
+        seconds[name, count], peak, printed = measure(line, args.runs, args.times)
         half = seconds.get((name, count // 2))
         if half is not None:
             ratios[line] = seconds[name, count] / max(half, 0.001)
-        whole = is_whole(name, count, text)
+        whole = is_whole(name, count, args.times, printed)
         wrong += not whole
         shown = f"{ratios[line]:6.2f}" if line in ratios else ""
-        print(f"{line:<16} {seconds[name, count]:>10.3f} s {peak:>5.0f} M {shown}" + ("" if whole else f" ! {text}"), flush=True)
+        print(f"{line:<16} {seconds[name, count]:>10.3f} s {peak:>5.0f} M {shown}" + ("" if whole else " !"), flush=True)
     above = [line for line, ratio in ratios.items() if ratio > WANTED]
     if ratios:
         print(f"more than {WANTED} times the time of half the number: {', '.join(above) or 'none'}")
