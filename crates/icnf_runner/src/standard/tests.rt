@@ -1,6 +1,8 @@
 //! Standard input and output over a reader and a writer that give or take a part, fail once, or give or take nothing.
 
 use super::{StdSink, StdSource};
+use crate::run::run;
+use crate::status::Status;
 use io_edge::outside::{Failed, Sink, Source, write_all};
 use std::alloc::Global;
 use std::io::{self, ErrorKind, Read, Write};
@@ -124,6 +126,29 @@ fn a_failed_write_is_told(rt: HostRuntime) -> Result<(), Fail> {
         let mut sink = StdSink::new(Narrow::new(rt.alloc(), 2, trouble));
         assert_eq!(rt; write_all(&mut sink, b"a text of many bytes"), Err(Failed));
         assert_eq!(rt; sink.writer.taken.as_slice(), written.as_bytes());
+    }
+    Ok(())
+}
+
+#[test]
+fn faults_of_standard_streams_end_a_run(rt: HostRuntime) -> Result<(), Fail> {
+    let alloc = rt.alloc();
+    let reply = "s SATISFIABLE\nv 1 0\n";
+    // The input of 17 bytes takes six reads, and its end one more; the reply takes seven writes.
+    for (read, write, trouble, want, code) in [
+        (9u32, 9u32, Trouble::Fails, reply, 10u8),
+        (0, 9, Trouble::Fails, "", 3),
+        (5, 9, Trouble::Fails, "", 3),
+        (6, 9, Trouble::Fails, reply, 3),
+        (9, 7, Trouble::Fails, "s SATISFIABLE\nv 1 ", 4),
+        (9, 7, Trouble::TakesNone, "s SATISFIABLE\nv 1 ", 4),
+        (9, 7, Trouble::HoldsBack, reply, 4),
+    ] {
+        let mut source = StdSource::new(reader_of("p inccnf\n1 0\na 0\n", read));
+        let mut sink = StdSink::new(Narrow::new(alloc, write, trouble));
+        let status = run(alloc, &[], &mut source, &mut sink);
+        assert_eq!(rt; status, Status { code });
+        assert_eq!(rt; sink.writer.taken.as_slice(), want.as_bytes());
     }
     Ok(())
 }
