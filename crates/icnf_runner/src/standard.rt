@@ -13,6 +13,9 @@ use sat_model::memory::Memory;
 use std::env;
 use std::io::{self, ErrorKind, Read, Write};
 
+#[cfg(test)]
+mod tests;
+
 /// A source over a reader, as standard input. It tells no bytes, and counts the reads that failed.
 #[derive(Drop)]
 pub struct StdSource<R: Read + Drop> {

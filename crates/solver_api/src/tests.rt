@@ -90,6 +90,8 @@ enum Row<'a> {
     Look(i32, &'a str),
     // So many assumptions are pending, and so many were queried.
     Count(usize, usize),
+    // `recheck` answers so.
+    Recheck(&'a str),
 }
 
 fn run(rt: &impl Abort, alloc: Global, rows: &[Row]) -> Result<(), Fail> {
@@ -113,6 +115,10 @@ fn run(rt: &impl Abort, alloc: Global, rows: &[Row]) -> Result<(), Fail> {
             Row::Count(pending, queried) => {
                 let counts = (solver.assumed().len(), solver.queried().len());
                 assert_eq!(rt; counts, (*pending, *queried));
+            }
+            Row::Recheck(text) => {
+                let found = format!(in alloc; "{:?}", solver.recheck())?;
+                assert_eq!(rt; found.as_str(), *text);
             }
             Row::Look(number, text) => {
                 let at = lit(rt, *number);
@@ -202,6 +208,40 @@ fn stops_at_its_budget(rt: HostRuntime) -> Result<(), Fail> {
         Row::AskWithin(&[], 0, "unknown 0"),
         Row::Ask(&[], "sat 0 0"),
         Row::AskWithin(&[], 0, "sat 0 0"),
+    ];
+    run(&rt, rt.alloc(), &rows)
+}
+
+#[test]
+fn looks_at_a_model_again(rt: HostRuntime) -> Result<(), Fail> {
+    let rows = [
+        Row::Recheck("Err(NotSat)"),
+        Row::Ask(&[], "sat"),
+        Row::Recheck("Ok(0)"),
+        Row::Give(&[1, 2]),
+        Row::Recheck("Err(NotSat)"),
+        Row::Give(&[-2, 3, 3]),
+        Row::Give(&[4, -4]),
+        Row::Ask(&[-1, 4, -1], "sat 0 1 1 1"),
+        // Three clauses, and each assumption as often as it was made.
+        Row::Recheck("Ok(6)"),
+        Row::Recheck("Ok(6)"),
+        Row::Ask(&[-1, -2], "unsat -1 -2"),
+        Row::Recheck("Err(NotSat)"),
+        Row::Ask(&[-1, -4], "sat 0 1 1 0"),
+        Row::Recheck("Ok(5)"),
+        Row::Give(&[]),
+        Row::Ask(&[5], "unsat"),
+        Row::Recheck("Err(NotSat)"),
+    ];
+    run(&rt, rt.alloc(), &rows)?;
+    let rows = [
+        Row::Give(&[1, 2]),
+        Row::Give(&[1, -2]),
+        Row::Give(&[-1, 2]),
+        Row::Give(&[-1, -2]),
+        Row::AskWithin(&[], 0, "unknown 0"),
+        Row::Recheck("Err(NotSat)"),
     ];
     run(&rt, rt.alloc(), &rows)
 }
