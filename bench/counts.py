@@ -1,13 +1,17 @@
 #!/usr/bin/env python3
-"""Counts what the program does on inputs with one query, beside MiniSat and CaDiCaL: conflicts, microseconds a conflict, and, where
-valgrind is there, decisions and propagated literals, and millions of these a second. It makes its own data and asserts nothing.
+"""Counts what the program does on inputs with one query, beside MiniSat and CaDiCaL: conflicts, microseconds a conflict, decisions,
+propagated literals, and millions of these a second. It makes its own data and asserts nothing.
 
 The program prints no counts. Its conflicts are found through its budget: the least budget under which the query is answered is the
-number of conflicts that it takes. Its decisions and propagated literals are the calls that callgrind counts.
+number of conflicts that it takes. Its decisions and propagated literals are the calls that callgrind counts, in a build whose calls are
+not folded into their callers: that of Rattle's own compiler, which takes the same steps (`rt run --backend rattle` in
+crates/icnf_runner; copy out/icnf_runner away, and `rt run` builds the usual one again).
 
-Usage: bench/counts.py [FAMILY ..]   (families of bench/families.py that ask one query, as 'random 200 426 1')
+Usage: bench/counts.py [--plain PROGRAM] [FAMILY ..]
+    --plain PROGRAM  that build; without it and valgrind nothing is said of decisions and propagated literals
+    FAMILY           a family of bench/families.py that asks one query, as 'random 200 426 1'; 'bmc1 K' is the last query of 'bmc K'
 """
-import glob
+import argparse
 import os
 import re
 import shutil
@@ -18,8 +22,8 @@ import tempfile
 import families
 
 USUAL = [f"random {n} 426 {seed}" for n in (150, 200) for seed in (1, 2)] + ["random 200 450 1", "pigeons 7", "bmc1 30"]
-# The functions whose calls are counted: a literal of the trail is passed, and a variable is picked.
-PASSED, PICKED = "pass", "pick"
+# The calls that are counted: a literal is decided, and one is appended to the trail as implied.
+DECIDED, IMPLIED = "trail_state::trail::Trail::decide", "trail_state::trail::Trail::append"
 
 
 def text_of(family):
@@ -62,23 +66,26 @@ def conflicts_of(text):
     return high
 
 
-def calls_of(text):
-    """How often literals are passed and variables picked, as callgrind counts it; None where valgrind is missing."""
-    if not shutil.which("valgrind"):
+def calls_of(program, text):
+    """How many literals are decided and how many are implied, as callgrind counts the calls of a program; None where it is missing."""
+    if program is None or not shutil.which("valgrind"):
         return None
     with tempfile.TemporaryDirectory() as folder:
         out = os.path.join(folder, "out")
-        words = ["valgrind", "--tool=callgrind", "--compress-strings=no", f"--callgrind-out-file={out}", families.PROGRAM]
+        words = ["valgrind", "--tool=callgrind", f"--callgrind-out-file={out}", program]
         subprocess.run(words, input=text, capture_output=True, text=True)
-        counts, called = {}, ""
-        for name in glob.glob(out + "*"):
-            for line in open(name):
-                if line.startswith("cfn="):
-                    called = line[4:].strip()
+        names, counts, called = {}, {}, None
+        with open(out) as lines:
+            for line in lines:
+                named = re.match(r"(c?)fn=\((\d+)\)(?: (.*))?", line)
+                if named:
+                    if named[3]:
+                        names[named[2]] = named[3].strip()
+                    called = named[2] if named[1] else called
                 elif line.startswith("calls="):
                     counts[called] = counts.get(called, 0) + int(line[6:].split()[0])
-    ends = lambda word: sum(n for name, n in counts.items() if re.search(rf"(^|[:.]){word}\b", name))
-    return ends(PICKED), ends(PASSED)
+    found = {names.get(number): count for number, count in counts.items()}
+    return found.get(DECIDED, 0), found.get(IMPLIED, 0)
 
 
 def row(name, seconds, conflicts, decisions=None, passed=None):
@@ -90,17 +97,21 @@ def row(name, seconds, conflicts, decisions=None, passed=None):
 
 
 def main():
+    parser = argparse.ArgumentParser(description="Counts what the program does on inputs with one query.")
+    parser.add_argument("--plain")
+    parser.add_argument("families", nargs="*", default=USUAL)
+    args = parser.parse_args()
     if not os.path.exists(families.PROGRAM):
         print("build the program first: ./icnf_runner < examples/planning.icnf", file=sys.stderr)
         return 2
     print("            seconds conflicts  us each  decisions  propagated  M/sec")
     with tempfile.TemporaryDirectory() as folder:
         others = families.peers(folder)
-        for family in sys.argv[1:] or USUAL:
+        for family in args.families:
             text = text_of(family)
             print(family)
             seconds, _, _ = timed([families.PROGRAM], text)
-            row("this", seconds, conflicts_of(text), *(calls_of(text) or ()))
+            row("this", seconds, conflicts_of(text), *(calls_of(args.plain, text) or ()))
             for name, program in others:
                 seconds, printed, said = timed([program], text)
                 found = {word: int(number) for word, number in re.findall(r"(\w+):? +(\d+)", said or printed)}
