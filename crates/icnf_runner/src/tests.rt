@@ -1,3 +1,5 @@
+//! Whole runs: inputs at several cuts, texts cut off anywhere, each read and each write failing in turn, refused words, options, and
+//! inputs above every inline size and buffer, since want of memory is the one free answer.
 use super::options::Options;
 use super::run::run;
 use super::session::give_reply;

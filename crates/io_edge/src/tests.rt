@@ -1,3 +1,4 @@
+//! Sources and sinks that cut and fail, lines however they come, one that is longer than the buffer, and numbers joined by blanks.
 use crate::lines::{LineGot, LineReader, LineStop};
 use crate::memory::{MemSink, MemSource};
 use crate::outside::{Failed, Sink, Source, write_all};

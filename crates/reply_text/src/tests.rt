@@ -1,3 +1,4 @@
+//! The printed texts, from outside: models that end at a line's end and behind it, cores, counts, and a model of thousands of values.
 use crate::text::{write_checked, write_core, write_model, write_unknown};
 use io_edge::memory::MemSink;
 use sat_model::lists::Lits;
