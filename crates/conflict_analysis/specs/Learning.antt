@@ -1,6 +1,7 @@
 -- What a conflict teaches.
 use Rattle.std.specs.List.{list_any, range_with_len}
-use Rattle.std.specs.Prelude.{◌≡◌, ◌≢◌, ◌<◌, ◌≤◌, ◌+◌, ◌==◌, ◌⊎◌, ◌^◌, min, ℕ, Bool, true, List, Option, Some, unwrap_or, count_by}
+use Rattle.std.specs.Prelude.{◌≡◌, ◌≢◌, ◌<◌, ◌≤◌, ◌+◌, ◌==◌, ◌⊎◌, min, ℕ, Bool, true, List, Option, Some, unwrap_or, count_by}
+use Rattle.sat_terms.specs.Limits.{max_number}
 use Rattle.sat_terms.specs.Literal.{has, var_of}
 use Rattle.trail_state.specs.declared.trail.Step.{Step}
 use Rattle.trail_state.specs.Trail.{level_on}
@@ -42,8 +43,8 @@ glue_of t top c = count_by (has_level t c) (range_with_len 0 (top + 1))
 -- a conflict was counted, which the budget allowed
 pub record Rises (old new : Counted) : Type 0 where
   pub allowed : IsDue old.count old.budget → ⊥
-  pub count : new.count ≡ min (old.count + 1) (2 ^ 62)
-  pub total : new.total ≡ min (old.total + 1) (2 ^ 62)
+  pub count : new.count ≡ min (old.count + 1) max_number
+  pub total : new.total ≡ min (old.total + 1) max_number
   pub budget : new.budget ≡ old.budget
   pub unspent : new.is_spent ≡ old.is_spent
 

@@ -2,6 +2,7 @@
 use Rattle.std.proofs.Common.{◌≡◌, ◌≢◌, ℕ, ◌+◌, ◌^◌, ◌<◌, ◌≤◌, List, length, length-set, get_or, set, inl, inr, refl, sym, ap, ◌∙◌, arith}
 use Rattle.std.proofs.lemmas.Bool.{cases_eq}
 use Rattle.std.proofs.lemmas.List.{get_or-set_same, get_or-set_other, get_or_read}
+use Rattle.sat_terms.specs.Limits.{max_var}
 use Rattle.decide_order.specs.Line.{at, Line, IsNewest, IsRing, IsQueue}
 
 -- one place of a table was written
@@ -256,7 +257,7 @@ ring_bump p p1 p2 p' n n1 n2 n' s s' count last v after before l r pos in' after
     }
 
 -- what `append` makes of the tables, as the code reads them
-pub queue_append : (ps ns ss : List ℕ) (count room last cursor newest : ℕ) → IsQueue ps ns ss count room last cursor → count + 1 < room → count + 1 < 2 ^ 22 → newest ≡ get_or ps 0 newest
+pub queue_append : (ps ns ss : List ℕ) (count room last cursor newest : ℕ) → IsQueue ps ns ss count room last cursor → count + 1 < room → count < max_var → newest ≡ get_or ps 0 newest
     → IsQueue (set (set ps (count + 1) newest) 0 (count + 1)) (set (set ns newest (count + 1)) (count + 1) 0) (set ss (count + 1) (last + 1)) (count + 1) room (last + 1) (count + 1)
 queue_append ps ns ss count room last cursor newest q more few read =
     let a = q.prevs_room in

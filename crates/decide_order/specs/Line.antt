@@ -1,6 +1,7 @@
 -- The queue: a ring of the variables in the order of their last bump. The place 0 of its tables
 -- stands before the oldest and behind the newest of them.
 use Rattle.std.specs.Prelude.{◌≡◌, ◌≢◌, ◌<◌, ◌≤◌, ◌+◌, ◌^◌, ℕ, List, length, slice_index_or}
+use Rattle.sat_terms.specs.Limits.{max_var}
 
 -- what a table has at a place, 0 past its end
 abbrev pub at : List ℕ → ℕ → ℕ
@@ -51,6 +52,6 @@ pub record IsQueue (prevs nexts stamps : List ℕ) (count room last cursor : ℕ
   pub nexts_room : room ≤ length nexts
   pub stamps_room : room ≤ length stamps
   pub within : 0 < count → count < room
-  pub few : count < 2 ^ 22
+  pub few : count ≤ max_var
   pub low : last ≤ 2 ^ 63 + count
   pub known : cursor ≤ count

@@ -1,5 +1,6 @@
 -- The order of decisions.
-use Rattle.std.specs.Prelude.{◌≡◌, ◌<◌, ◌≤◌, ◌^◌, ℕ, Bool, true, false, if◌then◌else◌, List, length, max, slice_index_or, None, IsSome}
+use Rattle.std.specs.Prelude.{◌≡◌, ◌<◌, ◌≤◌, ℕ, Bool, true, false, if◌then◌else◌, List, length, max, slice_index_or, None, IsSome}
+use Rattle.sat_terms.specs.Limits.{max_var}
 use Rattle.sat_terms.specs.Literal.{var_of, pos_lit, neg_lit}
 use Rattle.trail_state.specs.Trail.{Trace, value_on}
 use Rattle.decide_order.specs.Line.{at, Line, IsAhead}
@@ -94,4 +95,4 @@ pub record IsOrdered (active phases : List Bool) (queue : Line) (heap : Pile) : 
   pub phases_room : 0 < queue.count → queue.count < length phases
   pub only : (v : ℕ) → slice_index_or active v false ≡ true → v ≤ queue.count
   pub named : slice_index_or active 0 false ≡ false
-  pub few : queue.count < 2 ^ 22
+  pub few : queue.count ≤ max_var

@@ -1,6 +1,7 @@
 -- The heap: the variables in some order, of which the first `size` are in the heap. The tables say
 -- which variable stands at a place, and at which place a variable stands.
-use Rattle.std.specs.Prelude.{◌≡◌, ◌<◌, ◌≤◌, ◌^◌, ℕ, List, length}
+use Rattle.std.specs.Prelude.{◌≡◌, ◌<◌, ◌≤◌, ℕ, List, length}
+use Rattle.sat_terms.specs.Limits.{max_var}
 use Rattle.decide_order.specs.Line.{at}
 
 -- what contracts see of the heap
@@ -36,5 +37,5 @@ pub record IsPile (items places scores : List ℕ) (count room size : ℕ) : Typ
   pub places_room : room ≤ length places
   pub scores_room : room ≤ length scores
   pub within : 0 < count → count < room
-  pub few : count < 2 ^ 22
+  pub few : count ≤ max_var
   pub sized : size ≤ count

@@ -9,6 +9,7 @@
 //! come into it is an exchange, and nothing is ever appended or searched for. Variables with a
 //! value stay in the heap until they come to its top, and come back when they lose it.
 ghost use Rattle.std.specs.Prelude.{◌≡◌, ◌≢◌, ◌<◌, ◌≤◌, ◌+◌, ◌^◌, ℕ, OnOk, MatchOption, IfSome, length};
+ghost use Rattle.sat_terms.specs.Limits.{max_var};
 ghost use Rattle.decide_order.specs.Line.{at as entry};
 ghost use Rattle.decide_order.specs.Pile.{IsHeaped, KeepsHeaped};
 
@@ -95,7 +96,7 @@ impl Heap {
     // The heap is a part of the variables. The call does nothing.
     fn law_size(&self)
         ensures sized { self.now.size ≤ self.now.count }
-        ensures few { self.now.count < 2 ^ 22 }
+        ensures few { self.now.count ≤ max_var }
     {
         let _size = self.size;
     }
@@ -199,7 +200,7 @@ impl Heap {
 
     // The next variable comes in.
     pub(crate) fn append(&mut self)
-        requires few { self.old.count + 1 < 2 ^ 22 }
+        requires few { self.old.count < max_var }
         requires room { self.old.count + 1 < self.old.room }
         ensures count { self.new.count ≡ self.old.count + 1 }
         ensures room { self.new.room ≡ self.old.room }

@@ -20,6 +20,7 @@
 //! the learned clause's variables alone, in its order, this saved about a third of the conflicts
 //! where it was measured.
 ghost use Rattle.std.specs.Prelude.{◌≡◌, ◌≢◌, ◌<◌, ◌≤◌, ◌+◌, ◌%◌, ◌==◌, ◌^◌, nat_lt, ℕ, true, false, if◌then◌else◌, None, max, OnOk, OnErr, IfSome, IfNone, IsTrue, ◌↔◌, length, slice_set};
+ghost use Rattle.sat_terms.specs.Limits.{max_var};
 ghost use Rattle.sat_terms.specs.Literal.{var_of};
 ghost use Rattle.trail_state.specs.Trail.{Trace, step, IsBack};
 ghost use Rattle.decide_order.specs.Line.{IsNewest};
@@ -127,7 +128,7 @@ impl Order {
 
     // Declares the next variable.
     fn append(&mut self)
-        requires few { self.old.declared + 1 < 2 ^ 22 }
+        requires few { self.old.declared < max_var }
         requires active_room { self.old.declared + 1 < length self.old.active }
         requires phases_room { self.old.declared + 1 < length self.old.phases }
         requires queue_room { self.old.declared + 1 < self.old.queue.room }
@@ -190,7 +191,7 @@ impl Order {
 
     // The active variables are declared ones. The call does nothing.
     fn law_range(&self)
-        ensures few { self.now.declared < 2 ^ 22 }
+        ensures few { self.now.declared ≤ max_var }
         ensures range { (v : ℕ) → is_active self.now v ≡ true → (0 < v) × (v ≤ self.now.declared) }
     {
         let _stable = self.stable;

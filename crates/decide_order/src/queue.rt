@@ -11,6 +11,7 @@
 //! A stamp is never above 2^63 + 2^22: after 2^63 bumps the queue stands still, which no run
 //! reaches.
 ghost use Rattle.std.specs.Prelude.{◌≡◌, ◌≢◌, ◌<◌, ◌≤◌, ◌+◌, ◌^◌, ℕ, OnOk, MatchOption};
+ghost use Rattle.sat_terms.specs.Limits.{max_var};
 ghost use Rattle.decide_order.specs.Line.{at, IsAhead, KeepsAhead, IsNewest};
 
 use crate::room::{reach_counts, reach_numbers};
@@ -88,7 +89,7 @@ impl Queue {
 
     // The next variable comes in as the newest, and the search begins at it.
     pub(crate) fn append(&mut self)
-        requires few { self.old.count + 1 < 2 ^ 22 }
+        requires few { self.old.count < max_var }
         requires room { self.old.count + 1 < self.old.room }
         ensures count { self.new.count ≡ self.old.count + 1 }
         ensures room { self.new.room ≡ self.old.room }

@@ -3,8 +3,8 @@ use Rattle.std.proofs.Common.{◌≡◌, ◌∙◌, sym, ap, refl, subst, arith,
 use Rattle.std.specs.Prelude.{◌≢◌, ◌&&◌, map, nat_lt, nat_le, if◌then◌else◌}
 use Rattle.std.proofs.lemmas.Bool.{cases_lt}
 use Rattle.std.proofs.lemmas.List.{append-nil}
-use Rattle.sat_terms.specs.Limits.{max_literals}
-use Rattle.io_edge.specs.Lines.{line_text, max_line, max_input}
+use Rattle.sat_terms.specs.Limits.{max_literals, max_line, max_input}
+use Rattle.io_edge.specs.Lines.{line_text}
 use Rattle.icnf_reader.specs.Words.{line_words}
 use Rattle.icnf_reader.specs.Tokens.{Token, Word, Fault, CutOff, tokens}
 use Rattle.icnf_reader.specs.Grammar.{Statement, IsFew, IsBadWord, Ended, end_reason}

@@ -6,7 +6,8 @@ use Rattle.std.specs.Io.KnownBytes.{IsAtEnd}
 use Rattle.std.proofs.lemmas.Bool.{cases_lt}
 use Rattle.std.proofs.lemmas.Bool.Decides.{nat_tests}
 use Rattle.io_edge.specs.Told.{WhereTold}
-use Rattle.io_edge.specs.Lines.{lines, line_text, Fits, IsTooLong, IsTooMuch, max_line, max_input}
+use Rattle.sat_terms.specs.Limits.{max_line, max_input}
+use Rattle.io_edge.specs.Lines.{lines, line_text, Fits, IsTooLong, IsTooMuch}
 use Rattle.io_edge.specs.Reading.{LineState, rest_of, GivesLine, TakesPart, Answers}
 use Rattle.io_edge.specs.declared.lines.LineStop.TheVariants as stop
 use Rattle.std.specs.Prelude.{Err}

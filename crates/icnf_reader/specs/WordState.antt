@@ -1,6 +1,7 @@
 -- What a reader of words has done.
-use Rattle.std.specs.Prelude.{◌≡◌, ℕ, ◌+◌, ◌-◌, ◌*◌, ◌^◌, max, Bool, true, false, List, [], ◌∷◌, ◌++◌, length, map, Result, Ok, Err, IfSome}
+use Rattle.std.specs.Prelude.{◌≡◌, ℕ, ◌+◌, ◌-◌, ◌*◌, max, Bool, true, false, List, [], ◌∷◌, ◌++◌, length, map, Result, Ok, Err, IfSome}
 use Rattle.std.specs.declared.option.Option.{Option}
+use Rattle.sat_terms.specs.Limits.{max_input}
 use Rattle.io_edge.specs.Told.{WhereTold}
 use Rattle.io_edge.specs.Lines.{lines, NoLf}
 use Rattle.io_edge.specs.Reading.{LineState, fresh, rest_of}
@@ -102,7 +103,7 @@ pub record SameLeft (old new : WordState) (before after : List ℕ) : Type 0 whe
 
 -- a number that falls with each word
 abbrev pub word_fuel : WordState → ℕ
-word_fuel s = 2 * (2 ^ 40 - s.lines.used) + length s.pending
+word_fuel s = 2 * (max_input - s.lines.used) + length s.pending
 
 -- the end
 abbrev pub IsWordEnd : WordGot → Type 0

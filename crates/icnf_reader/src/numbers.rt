@@ -3,8 +3,9 @@
 //! A word is told in two places: where a literal may stand (`literal_word`), and where a number without a sign may stand
 //! (`plain_word`). Leading zeros are allowed, and a number of any length is told apart from one in range: its value is stopped at
 //! the first number that is too large, so it fits 64 bits.
-ghost use Rattle.std.specs.Prelude.{◌≡◌, ◌≤◌, ◌+◌, ◌^◌, if◌then◌else◌, min, true};
+ghost use Rattle.std.specs.Prelude.{◌≡◌, ◌≤◌, ◌+◌, if◌then◌else◌, min, true};
 ghost use Rattle.std.specs.List.{list_all};
+ghost use Rattle.sat_terms.specs.Limits.{max_number};
 ghost use Rattle.icnf_reader.specs.Numbers.{place_of, plain_place, negative_place, unsigned_place, are_digits, number_from, is_digit, IsAtMost};
 
 use sat_model::literal::Lit;
@@ -53,7 +54,7 @@ pub fn literal_word(text: &[u8]) -> LitWord
 /// What a word is in the place of a number without a sign that is at most `max`, and `max` is at most 2^62: its value where it is
 /// one or more digits and in range. Leading zeros are allowed.
 pub fn plain_word(text: &[u8], max: u64) -> PlainWord
-    requires { max ≤ 2 ^ 62 }
+    requires { max ≤ max_number }
     ensures place { result ≡ plain_place max text.now }
     ensures most { IsAtMost max result }
 {
@@ -111,7 +112,7 @@ fn all_digits(bytes: &[u8]) -> bool
 // The number that digits write, or `cap` where it is greater.
 fn number_of(digits: &[u8], cap: u64) -> u64
     requires digits { list_all is_digit digits.now ≡ true }
-    requires cap { cap ≤ 2 ^ 62 + 1 }
+    requires cap { cap ≤ max_number + 1 }
     ensures { result ≡ min (number_from 0 digits.now) cap }
 {
     let mut n: u64 = 0;

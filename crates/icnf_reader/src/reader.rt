@@ -7,10 +7,10 @@
 //!
 //! What all calls together give is what the grammar says of the whole list of words. These laws are proved beside, over the
 //! function that this reader computes word by word (`specs/Outcomes.antt`), and stand on the functions of grammar.rt.
-ghost use Rattle.std.specs.Prelude.{◌≡◌, ◌+◌, ◌<◌, ◌≤◌, ◌^◌, ◌⊎◌, if◌then◌else◌, min, pos, ℕ, List, Bool, true, false, [], length, IfOk, IsErrOf};
+ghost use Rattle.std.specs.Prelude.{◌≡◌, ◌+◌, ◌<◌, ◌≤◌, ◌⊎◌, if◌then◌else◌, min, pos, ℕ, List, Bool, true, false, [], length, IfOk, IsErrOf};
 ghost use Rattle.std.specs.Str.{bytes_eq};
 ghost use Rattle.std.specs.Io.KnownBytes.{IsAtEnd};
-ghost use Rattle.sat_terms.specs.Limits.{max_var, max_number};
+ghost use Rattle.sat_terms.specs.Limits.{max_var, max_number, max_literals};
 ghost use Rattle.io_edge.specs.Causes.{Rose};
 ghost use Rattle.icnf_reader.specs.Numbers.{plain_place};
 ghost use Rattle.icnf_reader.specs.Outcomes.{doing, kind_place, allows_inc, vars_place, clauses_place, begins_query, in_statement, opened, resting, closed};
@@ -266,7 +266,7 @@ impl Reader {
         ensures header { is_before_header self.old.point.mode ≡ true → GivesHeader self.new.point.mode result }
         ensures vars { IfOk result HaveVars }
         ensures count { IfOk result (λ item. given self.new.point ≡ given self.old.point + lits_of item) }
-        ensures few { given self.new.point ≤ 2 ^ 27 }
+        ensures few { given self.new.point ≤ max_literals }
         ensures done { self.new.done ≡ self.old.done }
     {
         let meaning = meaning_of(self.mode, self.words.text());
@@ -324,7 +324,7 @@ impl Reader {
 
         // Each literal is counted, and there are not too many.
         ensures count { IfOk result (λ item. given self.new.point ≡ given self.old.point + lits_in item) }
-        ensures few { given self.new.point ≤ 2 ^ 27 }
+        ensures few { given self.new.point ≤ max_literals }
 
         ensures later { S.faults source.old ≤ S.faults source.new }
         ensures cause { IsErrOf result Stop.ReadFault → Rose (S.faults source.old) (S.faults source.new) }

@@ -1,5 +1,5 @@
 -- The words that are read one after another are the sequences of items.
-use Rattle.std.proofs.Common.{◌≡◌, ◌∙◌, sym, ap, refl, subst, arith, ⊎_elim, inl, inr, ℕ, zero, suc, ◌+◌, ◌<◌, ◌≤◌, ◌^◌, Bool, true, false, List, [], ◌∷◌, ◌++◌, length, drop, get_or, map, add-one, Option, Some, None, append_assoc}
+use Rattle.std.proofs.Common.{◌≡◌, ◌∙◌, sym, ap, refl, subst, arith, ⊎_elim, inl, inr, ℕ, zero, suc, ◌+◌, ◌<◌, ◌≤◌, Bool, true, false, List, [], ◌∷◌, ◌++◌, length, drop, get_or, map, add-one, Option, Some, None, append_assoc}
 use Rattle.std.specs.Prelude.{◌⊎◌, ◌≢◌, ◌==◌, codes, if◌then◌else◌, is_some, IfNone}
 use Rattle.std.specs.Str.{bytes_eq}
 use Rattle.std.proofs.lemmas.Bool.{eqb-true}
@@ -414,7 +414,7 @@ unread_refused ws e a =
     let x : None ≡ Some t.0 = sym e ∙ items_parse items ws nothing_found t.0 a.1.are t.1 in cc
 
 -- a number that is told is in range
-number_most : (n : ℕ) (digits : List ℕ) → plain_place max_number digits ≡ plain.Value n → n ≤ 2 ^ 62
+number_most : (n : ℕ) (digits : List ℕ) → plain_place max_number digits ≡ plain.Value n → n ≤ max_number
 number_most n digits e = let P : PlainWord → Type 0 = λ x. IsAtMost max_number x in let h = subst P e (plain_most max_number digits) in omega (arith, h)
 
 -- the numbers of items are in range

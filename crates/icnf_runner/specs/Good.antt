@@ -1,5 +1,6 @@
 -- Good replies to a script (iCNF: each query asks of the clauses above it, under its assumptions).
-use Rattle.std.specs.Prelude.{◌≡◌, ◌⊎◌, ℕ, ◌+◌, ◌^◌, ◌<◌, max, List, [], ◌∷◌, ◌++◌, length, Contains}
+use Rattle.std.specs.Prelude.{◌≡◌, ◌⊎◌, ℕ, ◌+◌, ◌<◌, max, List, [], ◌∷◌, ◌++◌, length, Contains}
+use Rattle.sat_terms.specs.Limits.{max_number}
 use Rattle.sat_terms.specs.Answer.{greatest_var, IsModel, IsCore}
 use Rattle.icnf_reader.specs.Grammar.{Statement, Clause, Query}
 use Rattle.solver_api.specs.declared.givens.GivenPart.{GivenPart}
@@ -32,7 +33,7 @@ query_count (Query a ∷ ss) = 1 + query_count ss
 abbrev pub IsGood : ℕ → ℕ → List Statement → List ℕ → Reply → Type 0
 IsGood budget vars above a (Sat m) = IsModel (GivenTrue (parts_of above)) a (max vars (max (greatest_in above) (greatest_var a))) m
 IsGood budget vars above a (Unsat core) = IsCore (GivenTrue (parts_of above)) a core
-IsGood budget vars above a (Unknown conflicts) = (conflicts ≡ budget) × (conflicts < 2 ^ 62)
+IsGood budget vars above a (Unknown conflicts) = (conflicts ≡ budget) × (conflicts < max_number)
 
 -- below these statements and after these replies nothing has a model any more: an empty clause, or an empty core
 abbrev pub IsSettled : List Statement → List Reply → Type 0

@@ -1,5 +1,5 @@
 -- The options of the command line: a list of words is accepted if it is a sequence of items, each name at most once, in any order.
-use Rattle.std.specs.Prelude.{◌≡◌, ◌≤◌, ◌⊎◌, ◌≢◌, ℕ, ◌^◌, Bool, true, false, List, [], ◌∷◌, ◌++◌, codes}
+use Rattle.std.specs.Prelude.{◌≡◌, ◌≤◌, ◌⊎◌, ◌≢◌, ℕ, Bool, true, false, List, [], ◌∷◌, ◌++◌, codes}
 use Rattle.sat_terms.specs.Limits.{max_number}
 use Rattle.icnf_reader.specs.Numbers.{plain_place}
 use Rattle.icnf_reader.specs.declared.numbers.PlainWord.TheVariants as plain
@@ -71,6 +71,6 @@ pub record Accepts (ws : List (List ℕ)) (o : Options) : Type 0 where
 
 -- the numbers of options are at most 2^62
 pub record IsInRange (o : Options) : Type 0 where
-  pub conflicts : o.conflicts ≤ 2 ^ 62
-  pub callbacks : o.callbacks ≤ 2 ^ 62
-  pub steps : o.steps ≤ 2 ^ 62
+  pub conflicts : o.conflicts ≤ max_number
+  pub callbacks : o.callbacks ≤ max_number
+  pub steps : o.steps ≤ max_number

@@ -1,7 +1,8 @@
 -- What the calls of a session do to a solver.
-use Rattle.std.specs.Prelude.{◌≡◌, ◌||◌, ◌==◌, ℕ, ◌+◌, ◌^◌, ◌<◌, max, Bool, true, false, List, [], ◌∷◌, ◌++◌, length, Some, Result, Ok, Err}
+use Rattle.std.specs.Prelude.{◌≡◌, ◌||◌, ◌==◌, ℕ, ◌+◌, ◌<◌, max, Bool, true, false, List, [], ◌∷◌, ◌++◌, length, Some, Result, Ok, Err}
 use Rattle.std.specs.declared.option.Option.{Option}
 use Rattle.std.specs.Io.KnownBytes.{Appends}
+use Rattle.sat_terms.specs.Limits.{max_number}
 use Rattle.sat_terms.specs.Literal.{var_of}
 use Rattle.sat_terms.specs.Answer.{IsModel, IsCore}
 use Rattle.io_edge.specs.Told.{AppendsFront}
@@ -30,7 +31,7 @@ abbrev pub Gives : ℕ → State → Reply → State → Type 0
 Gives budget old (Sat m) new = IsModel (GivenTrue old.given) old.pending old.greatest m × (old.settled ≡ false) × (new ≡ record old { pending = []; queried = old.pending; mode = modes.Sat m })
 Gives budget old (Unsat core) new = IsCore (GivenTrue old.given) old.pending core × (old.settled ≡ true → core ≡ [])
     × (new ≡ record old { pending = []; queried = old.pending; settled = old.settled || (length core == 0); mode = modes.Unsat core })
-Gives budget old (Unknown conflicts) new = (conflicts ≡ budget) × (conflicts < 2 ^ 62) × (old.settled ≡ false) × (new ≡ record old { pending = []; queried = old.pending; mode = modes.Input })
+Gives budget old (Unknown conflicts) new = (conflicts ≡ budget) × (conflicts < max_number) × (old.settled ≡ false) × (new ≡ record old { pending = []; queried = old.pending; mode = modes.Input })
 
 -- the reply as it is printed, where so many variables are declared
 abbrev pub shown : ℕ → Reply → Reply

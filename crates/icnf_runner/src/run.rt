@@ -5,8 +5,9 @@
 //! `p cnf` input is one more query. A run is broken off at the first fault of its source or sink and where memory is wanted; else it
 //! ends at the end of the input, or at its first bad line, which the closing line names. Texts are written as they come, and take no
 //! memory.
-ghost use Rattle.std.specs.Prelude.{◌≡◌, ◌≢◌, ◌≤◌, ◌<◌, ◌^◌, ◌⊎◌, ◌↔◌, true, false, ℕ, List, [], Some, OnOk, OnErr, IfSome, IfOk, map, string_bytes, ◌++◌, codes};
+ghost use Rattle.std.specs.Prelude.{◌≡◌, ◌≢◌, ◌≤◌, ◌<◌, ◌⊎◌, ◌↔◌, true, false, ℕ, List, [], Some, OnOk, OnErr, IfSome, IfOk, map, string_bytes, ◌++◌, codes};
 ghost use Rattle.std.specs.Io.KnownBytes.{Appends, IsAtEnd};
+ghost use Rattle.sat_terms.specs.Limits.{max_var, max_literals};
 ghost use Rattle.io_edge.specs.Causes.{Rose, HasCause};
 ghost use Rattle.io_edge.specs.Told.{AppendsFront};
 ghost use Rattle.icnf_reader.specs.declared.item.Stop.TheVariants as stops;
@@ -78,8 +79,8 @@ fn has_last_query(kind: HeadKind) -> bool
 // Replies to the query at the end of an input, and ends the run.
 fn last_reply<K: Sink>(solver: &mut Solver, options: Options, vars: u32, sink: &mut K) -> Status
     requires range { IsInRange options }
-    requires room { (state solver.old).taken ≤ 2 ^ 27 }
-    requires vars { vars < 2 ^ 22 }
+    requires room { (state solver.old).taken ≤ max_literals }
+    requires vars { vars ≤ max_var }
     ensures ends { EndsReply options vars (state solver.old) (K.written sink.old) (K.written sink.new) result.code }
     ensures cause { result.code ≡ 4 → Rose (K.faults sink.old) (K.faults sink.new) }
     ensures kept { result.code ≢ 4 → K.faults sink.new ≡ K.faults sink.old }

@@ -3,8 +3,9 @@
 //! Between the reader and the solver: each function here is one step of a session, and its contract names the solver's call that it
 //! makes (`Step`). The reader has counted the literals, so the solver has room for them. A reply is written as soon as it is
 //! there, and read off the solver itself: no text of a model is made.
-ghost use Rattle.std.specs.Prelude.{true, false, ◌≡◌, ◌+◌, ◌≤◌, ◌<◌, ◌^◌, ℕ, List, [], ◌∷◌, ◌++◌, length, Ok, OnOk, OnErr, IfOk, IsErrOf};
+ghost use Rattle.std.specs.Prelude.{true, false, ◌≡◌, ◌+◌, ◌≤◌, ◌<◌, ℕ, List, [], ◌∷◌, ◌++◌, length, Ok, OnOk, OnErr, IfOk, IsErrOf};
 ghost use Rattle.std.specs.Io.KnownBytes.{Appends};
+ghost use Rattle.sat_terms.specs.Limits.{max_var, max_literals};
 ghost use Rattle.io_edge.specs.Causes.{Rose, HasCause};
 ghost use Rattle.io_edge.specs.Told.{AppendsFront};
 ghost use Rattle.solver_api.specs.Steps.{state, Step};
@@ -38,7 +39,7 @@ pub enum Break {
 
 /// Gives a clause to the solver, which has room for its literals.
 pub fn add_clause(solver: &mut Solver, clause: &Lits) -> Result<(), Memory>
-    requires { (state solver.old).taken + length clause.now ≤ 2 ^ 27 }
+    requires { (state solver.old).taken + length clause.now ≤ max_literals }
     ensures { OnOk result (Step (state solver.old) (calls.Add clause.now) (Ok replies.Done) (state solver.new)) }
 {
     match solver.add(clause.as_slice()) {
@@ -50,7 +51,7 @@ pub fn add_clause(solver: &mut Solver, clause: &Lits) -> Result<(), Memory>
 
 // Assumes a literal, for which the solver has room.
 fn assume_one(solver: &mut Solver, lit: Lit) -> Result<(), Memory>
-    requires { (state solver.old).taken < 2 ^ 27 }
+    requires { (state solver.old).taken <  max_literals }
     ensures { OnOk result (state solver.new ≡ assumed (state solver.old) (lit ∷ [])) }
 {
     match solver.assume(lit) {
@@ -62,7 +63,7 @@ fn assume_one(solver: &mut Solver, lit: Lit) -> Result<(), Memory>
 
 // Assumes literals, for which the solver has room.
 fn assume_all(solver: &mut Solver, lits: &[Lit]) -> Result<(), Memory>
-    requires { (state solver.old).taken + length lits.now ≤ 2 ^ 27 }
+    requires { (state solver.old).taken + length lits.now ≤ max_literals }
     ensures { OnOk result (state solver.new ≡ assumed (state solver.old) lits.now) }
 {
     for lit in lits {
@@ -83,7 +84,7 @@ fn conflicts_of(spent: Spent) -> u64
 // Solves under these assumptions, for which the solver has room.
 fn solve(solver: &mut Solver, lits: &[Lit], options: Options) -> Result<Outcome, Memory>
     requires range { IsInRange options }
-    requires room { (state solver.old).taken + length lits.now ≤ 2 ^ 27 }
+    requires room { (state solver.old).taken + length lits.now ≤ max_literals }
     ensures { IfOk result (λ outcome. Solves options (assumed (state solver.old) lits.now) outcome (state solver.new)) }
 {
     assume_all(solver, lits)?;
@@ -120,8 +121,8 @@ fn write_checked_model<K: Sink>(
     check: bool,
     count: u64,
 ) -> Result<(), Failed>
-    requires model { length model.now < 2 ^ 22 }
-    requires vars { vars < 2 ^ 22 }
+    requires model { length model.now ≤ max_var }
+    requires vars { vars ≤ max_var }
     ensures ok { OnOk result (Appends (K.written sink.old) (K.written sink.new) (printed_reply check count (Sat (padded vars model.now)))) }
     ensures err { OnErr result (AppendsFront (K.written sink.old) (K.written sink.new) (printed_reply check count (Sat (padded vars model.now)))) }
     ensures cause { HasCause (K.faults sink.old) (K.faults sink.new) result }
@@ -137,7 +138,7 @@ fn write_checked_model<K: Sink>(
 // Writes the model that the solver shows.
 fn show_model<K: Sink>(solver: &Solver, vars: u32, check: bool, sink: &mut K) -> Result<(), Failed>
     requires shown { IsModelShown (state solver.now) }
-    requires vars { vars < 2 ^ 22 }
+    requires vars { vars ≤ max_var }
     ensures ok { OnOk result (ShowsModel check vars (state solver.now) (Appends (K.written sink.old) (K.written sink.new))) }
     ensures err { OnErr result (ShowsModel check vars (state solver.now) (AppendsFront (K.written sink.old) (K.written sink.new))) }
     ensures cause { HasCause (K.faults sink.old) (K.faults sink.new) result }
@@ -182,8 +183,8 @@ pub fn give_reply<K: Sink>(
     sink: &mut K,
 ) -> Result<Status, Break>
     requires range { IsInRange options }
-    requires room { (state solver.old).taken + length lits.now ≤ 2 ^ 27 }
-    requires vars { vars < 2 ^ 22 }
+    requires room { (state solver.old).taken + length lits.now ≤ max_literals }
+    requires vars { vars ≤ max_var }
     ensures ok { IfOk result (λ status. IsAnswered options vars (state solver.old) lits.now (state solver.new) (K.written sink.old) (K.written sink.new) status.code) }
     ensures write { IsErrOf result Break.Write → IsHalfReplied options vars (state solver.old) lits.now (K.written sink.old) (K.written sink.new) }
     ensures memory { IsErrOf result Break.Memory → sink.new ≡ sink.old }

@@ -1,5 +1,6 @@
 -- The lines of a text, as DIMACS and its kin are read: each ends with an LF, which the last one may lack.
 use Rattle.std.specs.Prelude.{◌≢◌, ℕ, ◌+◌, ◌<◌, ◌≤◌, ◌==◌, if◌then◌else◌, List, [], ◌∷◌, length, All}
+use Rattle.sat_terms.specs.Limits.{max_line, max_input}
 
 -- a byte before the first line
 abbrev pub put_before : ℕ → List (List ℕ) → List (List ℕ)
@@ -19,13 +20,6 @@ line_text (b ∷ bs) = if b == 10 then [] else b ∷ line_text bs
 -- no byte is LF
 abbrev pub NoLf : List ℕ → Type 0
 NoLf bs = All (λ b. b ≢ 10) bs
-
--- The limits on a line and on the whole input.
-abbrev pub max_line : ℕ
-max_line = 16777216
-
-abbrev pub max_input : ℕ
-max_input = 1099511627776
 
 -- What may be wrong with a line before which `used` bytes stand. Where both limits are passed, the earlier byte decides.
 pub record IsTooLong (used : ℕ) (line : List ℕ) : Type 0 where

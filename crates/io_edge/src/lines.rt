@@ -9,6 +9,7 @@
 //! them, is not known here.
 ghost use Rattle.std.specs.Prelude.{◌≡◌, ◌≢◌, ◌+◌, ◌<◌, ◌≤◌, ◌↔◌, ◌⊎◌, ◌^◌, length, if◌then◌else◌, ◌∷◌, Some, IfNone, ℕ, max, List, [], OnOk, OnErr, IfOk, IfErr, IsTrue, IsErrOf, Bool, true, false, Contains};
 ghost use Rattle.std.specs.Io.KnownBytes.{prepend_known, IsAtEnd, Keeps};
+ghost use Rattle.sat_terms.specs.Limits.{max_line, max_input};
 ghost use Rattle.io_edge.specs.Causes.{HasCause, Rose};
 ghost use Rattle.io_edge.specs.Told.{WhereTold};
 ghost use Rattle.io_edge.specs.Lines.{IsTooLong, IsTooMuch};
@@ -106,7 +107,7 @@ impl LineReader {
 
         // Each line takes a byte, and there are not too many.
         ensures progress { is_last result ≡ false → (self.old.used < self.new.used) × (self.old.used + length self.new.line ≤ self.new.used) }
-        ensures few { self.new.used ≤ 2 ^ 40 }
+        ensures few { self.new.used ≤ max_input }
 
         ensures later { S.faults source.old ≤ S.faults source.new }
         ensures cause { IsErrOf result LineStop.ReadFault → Rose (S.faults source.old) (S.faults source.new) }
@@ -191,11 +192,11 @@ fn stop_at(broken: Broken, number: u64) -> LineStop
 
 // Whether a line of so many bytes before its end passes a limit; `used` bytes stand before it.
 fn limit(used: u64, len: usize, lf: bool) -> Option<Broken>
-    requires before { used ≤ 2 ^ 40 }
+    requires before { used ≤ max_input }
     requires room { len ≤ 2 ^ 25 }
-    ensures long { result ≡ Some Broken.TooLong → (16777216 < len) × (used + 16777216 ≤ 2 ^ 40) }
-    ensures much { result ≡ Some Broken.TooMuch → (2 ^ 40 < used + len + length (end_of lf)) × (16777216 < len → 2 ^ 40 < used + 16777216) }
-    ensures none { IfNone result ((len ≤ 16777216) × (used + len + length (end_of lf) ≤ 2 ^ 40)) }
+    ensures long { result ≡ Some Broken.TooLong → (max_line < len) × (used + max_line ≤ max_input) }
+    ensures much { result ≡ Some Broken.TooMuch → (max_input < used + len + length (end_of lf)) × (max_line < len → max_input < used + max_line) }
+    ensures none { IfNone result ((len ≤ max_line) × (used + len + length (end_of lf) ≤ max_input)) }
     ensures no_fault { (result ≡ Some Broken.ReadFault → ⊥) × (result ≡ Some Broken.Memory → ⊥) }
 {
     if len > MAX_LINE && used + (MAX_LINE as u64) <= MAX_INPUT {
@@ -214,7 +215,7 @@ fn gather<S: Source>(
     used: u64,
     source: &mut S,
 ) -> Result<bool, Broken>
-    requires before { used ≤ 2 ^ 40 }
+    requires before { used ≤ max_input }
     requires start { line.old.items ≡ [] }
 
     // A source is read only where it is needed.
@@ -223,7 +224,7 @@ fn gather<S: Source>(
     ensures lf { IfOk result (λ lf. lf ≡ true → Takes (S.left source.old) (S.left source.new) ahead.old ahead.new line.new.items (10 ∷ [])) }
     ensures end { IfOk result (λ lf. lf ≡ false → Takes (S.left source.old) (S.left source.new) ahead.old ahead.new line.new.items []
         × (ahead.new ≡ []) × IsAtEnd (S.left source.new)) }
-    ensures fits { IfOk result (λ lf. (length line.new.items ≤ 16777216) × (used + length line.new.items + length (end_of lf) ≤ 2 ^ 40)) }
+    ensures fits { IfOk result (λ lf. (length line.new.items ≤ max_line) × (used + length line.new.items + length (end_of lf) ≤ max_input)) }
 
     ensures later { S.faults source.old ≤ S.faults source.new }
     ensures cause { IsErrOf result Broken.ReadFault → Rose (S.faults source.old) (S.faults source.new) }
@@ -232,9 +233,9 @@ fn gather<S: Source>(
     ensures memory { IsErrOf result Broken.Memory → Takes (S.left source.old) (S.left source.new) ahead.old ahead.new line.new.items [] }
     ensures fault { IsErrOf result Broken.ReadFault → Takes (S.left source.old) (S.left source.new) ahead.old ahead.new line.new.items [] }
     ensures long { IsErrOf result Broken.TooLong → (lf : Bool) × Takes (S.left source.old) (S.left source.new) ahead.old ahead.new line.new.items (end_of lf)
-        × (16777216 < length line.new.items) × (used + 16777216 ≤ 2 ^ 40) }
+        × (max_line < length line.new.items) × (used + max_line ≤ max_input) }
     ensures much { IsErrOf result Broken.TooMuch → (lf : Bool) × Takes (S.left source.old) (S.left source.new) ahead.old ahead.new line.new.items (end_of lf)
-        × (2 ^ 40 < used + length line.new.items + length (end_of lf)) × (16777216 < length line.new.items → 2 ^ 40 < used + 16777216) }
+        × (max_input < used + length line.new.items + length (end_of lf)) × (max_line < length line.new.items → max_input < used + max_line) }
 {
     loop {
         let found = match ahead.take_line(line) {

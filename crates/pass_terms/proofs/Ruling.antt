@@ -1,8 +1,9 @@
 -- Laws of lists of rules.
-use Rattle.std.proofs.Common.{◌≡◌, ◌≢◌, ℕ, ◌+◌, ◌^◌, Bool, true, false, not, eqb, ◌||◌, List, [], ◌∷◌, ◌++◌, Option, Some, None, ◌⊎◌, inl, inr, refl, sym, ap, ◌∙◌, subst, arith, min}
+use Rattle.std.proofs.Common.{◌≡◌, ◌≢◌, ℕ, ◌+◌, Bool, true, false, not, eqb, ◌||◌, List, [], ◌∷◌, ◌++◌, Option, Some, None, ◌⊎◌, inl, inr, refl, sym, ap, ◌∙◌, subst, arith, min}
 use Rattle.std.specs.List.{list_any}
 use Rattle.std.proofs.lemmas.Bool.{cases_eq, false≢true, or_cases, or_left, or_right, false_from_ne_true, eqb-true}
 use Rattle.std.proofs.lemmas.List.{append-nil, append_assoc}
+use Rattle.sat_terms.specs.Limits.{max_number}
 use Rattle.sat_terms.specs.Literal.{has, var_of}
 use Rattle.sat_terms.specs.Truth.{Assignment}
 use Rattle.redundancy.specs.Redundancy.{Entry, StackTrue}
@@ -213,13 +214,13 @@ ruled_stack frozen s _ (more t u a r) = go r (ruled_stack frozen s t a) where
   go (unmarked r) i = (i.0, r.rest.stack ∙ i.1, i.2)
 
 -- the counts
-uses_removals : (frozen : ℕ → Bool) (s t : State) (n : ℕ) → (r : Uses frozen s t) → min s.removals (2 ^ 62) ≡ min n (2 ^ 62) → min t.removals (2 ^ 62) ≡ min (n + goes r) (2 ^ 62)
+uses_removals : (frozen : ℕ → Bool) (s t : State) (n : ℕ) → (r : Uses frozen s t) → min s.removals max_number ≡ min n max_number → min t.removals max_number ≡ min (n + goes r) max_number
 uses_removals frozen s t n (implied lits id known r) h = let e = r.rest.removals in omega arith
 uses_removals frozen s t n (dropped id r) h = let e = r.removals in omega arith
 uses_removals frozen s t n (parked id x free r) h = let e = r.removals in omega arith
 uses_removals frozen s t n (unmarked r) h = let e = r.rest.removals in omega arith
 
-ruled_removals : (frozen : ℕ → Bool) (s t : State) → (r : Ruled frozen s t) → min t.removals (2 ^ 62) ≡ min (s.removals + removals_of r) (2 ^ 62)
+ruled_removals : (frozen : ℕ → Bool) (s t : State) → (r : Ruled frozen s t) → min t.removals max_number ≡ min (s.removals + removals_of r) max_number
 ruled_removals frozen s _ none = let e : s.removals + 0 ≡ s.removals = omega arith in rw e refl
 ruled_removals frozen s _ (more t u a r) =
     let e : s.removals + (removals_of a + goes r) ≡ s.removals + removals_of a + goes r = omega arith in

@@ -1,5 +1,6 @@
 -- What a pass did, as a list of rules, and what follows from it.
-use Rattle.std.specs.Prelude.{◌≡◌, ℕ, suc, ◌+◌, ◌^◌, min, Bool, true, false, ◌||◌, List, [], ◌∷◌, ◌++◌, Option}
+use Rattle.std.specs.Prelude.{◌≡◌, ℕ, suc, ◌+◌, min, Bool, true, false, ◌||◌, List, [], ◌∷◌, ◌++◌, Option}
+use Rattle.sat_terms.specs.Limits.{max_number}
 use Rattle.sat_terms.specs.Literal.{has, var_of}
 use Rattle.sat_terms.specs.Truth.{Assignment}
 use Rattle.redundancy.specs.Redundancy.{Entry, StackTrue}
@@ -72,7 +73,7 @@ pub record Simplified (frozen : ℕ → Bool) (s t : State) (went : ℕ) : Type 
   pub stands : (v : ℕ) → stands_in t v ≡ true → stands_in s v ≡ true
   pub redundant : SameRedundant s.store t.store
   pub stack : (later : List Entry) × (t.stack ≡ s.stack ++ later) × AreSingle frozen later
-  pub removals : min t.removals (2 ^ 62) ≡ min (s.removals + went) (2 ^ 62)
+  pub removals : min t.removals max_number ≡ min (s.removals + went) max_number
   pub restores : t.restores ≡ s.restores
 
 abbrev pub PassesSimplify : Type 0

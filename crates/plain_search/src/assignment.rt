@@ -1,5 +1,6 @@
 //! The assignment of a search.
 ghost use Rattle.std.specs.Prelude.{◌≡◌, ◌+◌, ◌<◌, ◌≤◌, ℕ, [], ◌∷◌, length, IfOk, OnOk, OnErr, IfSome, IfNone, Some, None, vec_len, ◌≢◌, true};
+ghost use Rattle.sat_terms.specs.Limits.{max_var};
 ghost use Rattle.sat_terms.specs.Literal.{var_of, pos_lit};
 ghost use Rattle.sat_terms.specs.Truth.{values};
 ghost use Rattle.plain_search.specs.Search.{Agrees};
@@ -41,7 +42,7 @@ impl Assignment {
 
     /// Nothing is assigned.
     pub fn new(alloc: Global, vars: u32) -> Result<Assignment, Memory>
-        requires { vars ≤ 4194303 }
+        requires { vars ≤ max_var }
         ensures vars { IfOk result (λ a. a.vars ≡ vars) }
         ensures steps { IfOk result (λ a. a.steps ≡ []) }
     {

@@ -4,6 +4,7 @@
 //! assigns it; where there is neither, the least variable without a value is decided. Nothing is learned, nothing is indexed, so that
 //! little can be wrong and all of it is short; it takes exponential time where a search that learns does not.
 ghost use Rattle.std.specs.Prelude.{◌≡◌, ◌+◌, ◌<◌, ◌≤◌, length, All, IfOk, IfSome, IfNone};
+ghost use Rattle.sat_terms.specs.Limits.{max_var};
 ghost use Rattle.sat_terms.specs.Answer.{Satisfies, Within, IsModel, NoModel};
 ghost use Rattle.plain_search.specs.Rules.{rules};
 ghost use Rattle.plain_search.specs.Steps.{Justified, rank};
@@ -88,7 +89,7 @@ pub fn search<L: ClauseList>(
     assumed: &[Lit],
     vars: u32,
 ) -> Result<Option<Vec<bool>>, Memory>
-    requires few { vars ≤ 4194303 }
+    requires few { vars ≤ max_var }
     requires clauses_within { All (Within vars) (L.clauses clauses.now) }
     requires assumed_within { Within vars assumed.now }
     ensures model { IfOk result (λ found. IfSome found (λ m. IsModel (Satisfies (L.clauses clauses.now)) assumed.now vars m.items)) }

@@ -2,8 +2,9 @@
 //!
 //! A model is written as the literals that it makes true, from variable 1 on, and a core as its literals, each behind a prefix and
 //! twenty on a line (`io_edge::wrapping`). After `Failed` a front of the text was written, and the sink's count of faults rose.
-ghost use Rattle.std.specs.Prelude.{◌≡◌, ◌+◌, ◌≤◌, ◌<◌, ◌^◌, false, length, get_or, OnOk, OnErr, max};
+ghost use Rattle.std.specs.Prelude.{◌≡◌, ◌+◌, ◌≤◌, ◌<◌, false, length, get_or, OnOk, OnErr, max};
 ghost use Rattle.std.specs.Io.KnownBytes.{Appends};
+ghost use Rattle.sat_terms.specs.Limits.{max_var};
 ghost use Rattle.io_edge.specs.Causes.{HasCause};
 ghost use Rattle.io_edge.specs.Told.{AppendsFront};
 ghost use Rattle.reply_text.specs.Reply.{Sat, Unsat, Unknown};
@@ -23,7 +24,7 @@ fn value_at(model: &[bool], place: usize) -> bool
 
 // The number of the literal of a variable that a value makes true; the variable stands at this place.
 fn number_at(place: usize, value: bool) -> i32
-    requires { place < 2 ^ 22 }
+    requires { place ≤ max_var }
     ensures { result ≡ value_number (place + 1) value }
 {
     let variable = place as i32 + 1;
@@ -33,8 +34,8 @@ fn number_at(place: usize, value: bool) -> i32
 /// Writes the reply of a model of at most 4,194,303 values, for at least so many variables: `s SATISFIABLE`, and then `v` lines with
 /// the literals of the variables from 1 on that the model makes true, and a 0. Variables past the model's end are false.
 pub fn write_model<K: Sink>(sink: &mut K, model: &[bool], vars: u32) -> Result<(), Failed>
-    requires model { length model.now < 2 ^ 22 }
-    requires vars { vars < 2 ^ 22 }
+    requires model { length model.now ≤ max_var }
+    requires vars { vars ≤ max_var }
     ensures ok { OnOk result (Appends (K.written sink.old) (K.written sink.new) (reply_text (Sat (padded vars model.now)))) }
     ensures err { OnErr result (AppendsFront (K.written sink.old) (K.written sink.new) (reply_text (Sat (padded vars model.now)))) }
     ensures cause { HasCause (K.faults sink.old) (K.faults sink.new) result }

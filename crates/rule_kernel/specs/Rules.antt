@@ -1,6 +1,7 @@
 -- The rules of incremental inprocessing (after Järvisalo, Heule, Biere, IJCAR 2012, and Fazekas, Biere, Scholl, SAT 2019): when each may
 -- be used, and all that it changes.
-use Rattle.std.specs.Prelude.{◌≡◌, ℕ, ◌+◌, ◌<◌, ◌^◌, min, true, List, [], ◌∷◌, ◌++◌, length, drop, remove, if◌then◌else◌}
+use Rattle.std.specs.Prelude.{◌≡◌, ℕ, ◌+◌, ◌<◌, min, true, List, [], ◌∷◌, ◌++◌, length, drop, remove, if◌then◌else◌}
+use Rattle.sat_terms.specs.Limits.{max_number}
 use Rattle.sat_terms.specs.Normal.{IsNormal}
 use Rattle.sat_terms.specs.Truth.{Assignment, clause_true, Implies}
 use Rattle.redundancy.specs.Setting.{set_true}
@@ -12,7 +13,7 @@ use Rattle.rule_kernel.specs.State.{State, IsChained}
 
 -- one more, up to a bound
 abbrev pub counted : ℕ → ℕ
-counted n = min (n + 1) (2 ^ 62)
+counted n = min (n + 1) max_number
 
 -- a firm clause, and a redundant one of a glue
 abbrev pub firm_clause : List ℕ → Stored

@@ -44,10 +44,13 @@ same_tests false true f g = g refl
 same_tests false false f g = refl
 
 -- the literal at a place is a member
+pub has_item : (c : List ℕ) (i d : ℕ) → i < length c → has c (get_or c i d) ≡ true
+has_item [] i d in' = absurd (omega arith)
+has_item (y ∷ c) zero d in' = or_left (eqb y y) (has c y) (eq-eqb y y refl)
+has_item (y ∷ c) (suc i) d in' = or_right (eqb y (get_or c i d)) (has c (get_or c i d)) (has_item c i d (omega arith))
+
 pub has_at : (c : List ℕ) (i x : ℕ) → i < length c → x ≡ get_or c i x → has c x ≡ true
-has_at [] i x in' is = absurd (omega arith)
-has_at (y ∷ c) zero x in' is = or_left (eqb y x) (has c x) (eq-eqb y x (sym is))
-has_at (y ∷ c) (suc i) x in' is = or_right (eqb y x) (has c x) (has_at c i x (omega arith) is)
+has_at c i x in' is = subst (λ y. has c y ≡ true) (sym is) (has_item c i x in')
 
 pub has_taken : (n : ℕ) (c : List ℕ) (l : ℕ) → has (take n c) l ≡ true → has c l ≡ true
 has_taken zero c l h = absurd (false≢true h)
@@ -96,8 +99,3 @@ has_without (y ∷ c) x k =
             | inr m ↦ rw (ne_eqb y k m) before
           ])
     ]
-
-pub has_item : (c : List ℕ) (i d : ℕ) → i < length c → has c (get_or c i d) ≡ true
-has_item [] i d in' = absurd (omega arith)
-has_item (y ∷ c) zero d in' = or_left (eqb y y) (has c y) (eq-eqb y y refl)
-has_item (y ∷ c) (suc i) d in' = or_right (eqb y (get_or c i d)) (has c (get_or c i d)) (has_item c i d (omega arith))

@@ -12,3 +12,11 @@ max_literals = 134217728
 -- the greatest number that is stated or counted, 2^62; a budget of this number is none
 abbrev pub max_number : ℕ
 max_number = 4611686018427387904
+
+-- the most bytes of a line before its LF, 2^24
+abbrev pub max_line : ℕ
+max_line = 16777216
+
+-- the most bytes of an input, 2^40
+abbrev pub max_input : ℕ
+max_input = 1099511627776

@@ -2,10 +2,11 @@
 -- as its code, which is 2v for v and 2v + 1 for -v.
 use Rattle.std.specs.List.{list_any}
 use Rattle.std.specs.Prelude.{ℕ, ◌+◌, ◌-◌, ◌*◌, ◌/◌, ◌%◌, ◌^◌, ◌<◌, ◌≤◌, ◌==◌, Bool, List, ℤ, pos, negsuc}
+use Rattle.sat_terms.specs.Limits.{max_var}
 
 -- the numbers of variables
 abbrev pub IsVariable : ℕ → Type 0
-IsVariable v = (1 ≤ v) × (v < 2 ^ 22)
+IsVariable v = (1 ≤ v) × (v ≤ max_var)
 
 -- the codes of literals
 abbrev pub IsLiteral : ℕ → Type 0

@@ -3,7 +3,8 @@
 //! One test answers a few thousand small scripts both ways. The other one asks a single solver,
 //! first a query that takes more than two thousand conflicts, so that restarts, the stable half and a
 //! reduction are reached, and then some more over what is left of that.
-ghost use Rattle.std.specs.Prelude.{◌≤◌, ◌^◌, All, IsTrue};
+ghost use Rattle.std.specs.Prelude.{◌≤◌, All, IsTrue};
+ghost use Rattle.sat_terms.specs.Limits.{max_number};
 ghost use Rattle.sat_terms.specs.Answer.{Within};
 
 use crate::draw::Draw;
@@ -90,8 +91,8 @@ fn is_part(core: &[Lit], assumed: &[Lit]) -> bool {
 
 // Assumes literals, and solves within a budget.
 fn solve(solver: &mut Solver, assumed: &[Lit], budget: Budget) -> Result<Outcome, Fail>
-    requires conflicts { budget.conflicts ≤ 2 ^ 62 }
-    requires callbacks { budget.callbacks ≤ 2 ^ 62 }
+    requires conflicts { budget.conflicts ≤ max_number }
+    requires callbacks { budget.callbacks ≤ max_number }
 {
     for lit in assumed {
         solver.assume(*lit)?;

@@ -1,13 +1,14 @@
 -- What a tally counts.
-use Rattle.std.proofs.Common.{◌≡◌, ℕ, ◌+◌, ◌^◌, ◌≤◌, arith}
+use Rattle.std.proofs.Common.{◌≡◌, ℕ, ◌+◌, ◌≤◌, arith}
 use Rattle.std.specs.Prelude.{min}
+use Rattle.sat_terms.specs.Limits.{max_number}
 use Rattle.conflict_analysis.specs.Counting.{Counted}
 use Rattle.conflict_analysis.specs.Learning.{Rises}
 use Rattle.search_engine.specs.Searching.{CountsFrom}
 use Rattle.search_engine.specs.Turns.{KeepsCount}
 
 -- a tally that begins anew
-pub counts_start : (before : ℕ) (t : Counted) → t.total ≡ before → t.count ≡ 0 → before ≤ 2 ^ 62 → CountsFrom before t
+pub counts_start : (before : ℕ) (t : Counted) → t.total ≡ before → t.count ≡ 0 → before ≤ max_number → CountsFrom before t
 counts_start before t total none few = omega arith
 
 -- a conflict is counted

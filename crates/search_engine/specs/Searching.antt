@@ -1,5 +1,6 @@
 -- What a search needs, keeps and finds.
-use Rattle.std.specs.Prelude.{◌≡◌, ◌+◌, ◌^◌, ◌<◌, ◌≤◌, min, ℕ, Bool, true, if◌then◌else◌, List, [], length, Option, IsSome, is_some}
+use Rattle.std.specs.Prelude.{◌≡◌, ◌+◌, ◌<◌, ◌≤◌, min, ℕ, Bool, true, if◌then◌else◌, List, [], length, Option, IsSome, is_some}
+use Rattle.sat_terms.specs.Limits.{max_number}
 use Rattle.sat_terms.specs.Literal.{has, pos_lit}
 use Rattle.sat_terms.specs.Truth.{Assignment, values}
 use Rattle.sat_terms.specs.Answer.{Within, IsModel, IsCore}
@@ -100,7 +101,7 @@ pub record HasModel (assumptions : List ℕ) (old new : Core) : Type 0 where
 
 -- the tally counts from a total of before, which has risen by the count; totals stop at 2^62
 abbrev pub CountsFrom : ℕ → Counted → Type 0
-CountsFrom before t = t.total ≡ min (before + t.count) (2 ^ 62)
+CountsFrom before t = t.total ≡ min (before + t.count) max_number
 
 -- so many conflicts were counted, and the budget is used up by them
 pub record IsSpent (n : ℕ) (t : Counted) : Type 0 where

@@ -7,6 +7,7 @@
 //! the order of decisions, and what was learned (incremental search as in Eén, Sörensson, Temporal
 //! induction by incremental SAT solving, 2003).
 ghost use Rattle.std.specs.Prelude.{◌≡◌, ◌≤◌, ℕ, List, [], length, OnOk};
+ghost use Rattle.sat_terms.specs.Limits.{max_var};
 ghost use Rattle.sat_terms.specs.Answer.{Within};
 ghost use Rattle.clause_store.specs.Stored.{Stored};
 ghost use Rattle.trail_state.specs.Trail.{Trace, IsBack};
@@ -57,7 +58,7 @@ impl Core {
     /// among these, and at most these may be declared already. Whatever is answered, the core is at
     /// rest, with the same clauses.
     pub fn resume(&mut self, vars: u32) -> Result<(), Memory>
-        requires few { vars ≤ 4194303 }
+        requires few { vars ≤ max_var }
         requires rest { IsAtRest self.old }
         requires within { StoreWithin vars (clauses self.old) }
         requires declared { self.old.order.declared ≤ vars }
@@ -75,7 +76,7 @@ impl Core {
 
     // Declares the variables up to `vars`, and gives the model so many values.
     fn widen(&mut self, vars: u32) -> Result<(), Memory>
-        requires few { vars ≤ 4194303 }
+        requires few { vars ≤ max_var }
         requires rest { IsAtRest self.old }
         requires declared { self.old.order.declared ≤ vars }
         ensures model { OnOk result (length self.new.model.items ≡ vars) }

@@ -10,7 +10,8 @@
 //! The search ends since each turn lowers `measure` (specs/Turns.antt): the rank of the trail rises
 //! at a decision, at a propagated literal and where a decision gives way to an implied literal, and
 //! the policy allows only so many returns to the root.
-ghost use Rattle.std.specs.Prelude.{◌≡◌, ◌≤◌, ◌^◌, IfOk};
+ghost use Rattle.std.specs.Prelude.{◌≡◌, ◌≤◌, IfOk};
+ghost use Rattle.sat_terms.specs.Limits.{max_number};
 ghost use Rattle.search_engine.specs.Searching.{IsReady, Keeps, CountsFrom, FoundIs};
 ghost use Rattle.search_engine.specs.Turns.{IsBetweenTurns, Passed, KeepsCount, TurnIs};
 
@@ -67,7 +68,7 @@ pub fn search(
 ) -> Result<Found, Memory>
     requires ready { IsReady assumptions.now state.old }
     requires root { state.old.trail.level ≡ 0 }
-    requires budget { budget.conflicts ≤ 2 ^ 62 }
+    requires budget { budget.conflicts ≤ max_number }
     ensures found { IfOk result (FoundIs assumptions.now state.old state.new) }
     ensures keeps { Keeps state.old state.new }
     ensures budget { state.new.tally.budget ≡ budget.conflicts }

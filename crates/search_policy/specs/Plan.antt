@@ -1,9 +1,10 @@
 -- The policy of a search, conflict by conflict.
 use Rattle.std.specs.Prelude.{◌≡◌, ◌<◌, ◌≤◌, ◌+◌, ◌-◌, ◌*◌, ◌/◌, ◌^◌, ◌==◌, ◌&&◌, nat_lt, nat_le, not, min, ℕ, Bool, true, false, if◌then◌else◌}
+use Rattle.sat_terms.specs.Limits.{max_number}
 
 -- all counters stop here
 abbrev pub up : ℕ → ℕ
-up n = min (n + 1) (2 ^ 62)
+up n = min (n + 1) max_number
 
 -- A half of a phase: the number of the phase, from 0, which of its halves it is, and how many
 -- conflicts it has had.
@@ -111,10 +112,10 @@ pub record IsPlan (stable : Bool) (phase gone length_ conflicts fast slow unrest
   pub long : length_ ≡ half_length phase
   pub phases : phase ≤ 50
   pub short : (stable && nat_le 50 phase) ≡ false → gone < length_
-  pub gone_in : gone ≤ 2 ^ 62
-  pub conflicts_in : conflicts ≤ 2 ^ 62
+  pub gone_in : gone ≤ max_number
+  pub conflicts_in : conflicts ≤ max_number
   pub fast_in : fast < 2 ^ 48
   pub slow_in : slow < 2 ^ 48
-  pub unrestarted_in : unrestarted ≤ 2 ^ 62
-  pub reductions_in : reductions ≤ 2 ^ 62
-  pub unreduced_in : unreduced ≤ 2 ^ 62
+  pub unrestarted_in : unrestarted ≤ max_number
+  pub reductions_in : reductions ≤ max_number
+  pub unreduced_in : unreduced ≤ max_number

@@ -19,6 +19,7 @@
 //! counted from solve to solve: over a thousand solves of few conflicts each nothing would be
 //! forgotten otherwise.
 ghost use Rattle.std.specs.Prelude.{◌≡◌, ◌≢◌, ◌<◌, ◌≤◌, ◌+◌, ◌-◌, ◌*◌, ◌^◌, ◌==◌, ◌&&◌, nat_le, min, true, false, if◌then◌else◌, IfOk, OnOk, OnErr, IsTrue, not, ℕ, List, Option};
+ghost use Rattle.sat_terms.specs.Limits.{max_number};
 ghost use Rattle.search_policy.specs.Reduction.{IsReduction, IsForgettable};
 ghost use Rattle.clause_store.specs.Stored.{Stored};
 ghost use Rattle.clause_store.specs.Listing.{times};
@@ -76,9 +77,9 @@ impl Model for Policy {
 
 // One more, up to the last count.
 fn count_up(n: u64) -> u64
-    requires { n ≤ 2 ^ 62 }
+    requires { n ≤ max_number }
     ensures value { result ≡ up n }
-    ensures within { result ≤ 2 ^ 62 }
+    ensures within { result ≤ max_number }
 {
     if n < LAST_COUNT { n + 1 } else { LAST_COUNT }
 }

@@ -1,8 +1,9 @@
 -- What a call leaves standing.
-use Rattle.std.proofs.Common.{◌≡◌, refl, subst, arith, ⊎_elim, ℕ, ◌≤◌, ◌^◌, Bool, true, List, [], ◌∷◌, ◌++◌, length}
+use Rattle.std.proofs.Common.{◌≡◌, refl, subst, arith, ⊎_elim, ℕ, ◌≤◌, Bool, true, List, [], ◌∷◌, ◌++◌, length}
 use Rattle.std.specs.Prelude.{◌||◌, ◌==◌}
 use Rattle.std.proofs.lemmas.Bool.{false≢true, or_cases, eqb-true}
 use Rattle.std.proofs.lemmas.List.Elements.{All-weaker}
+use Rattle.sat_terms.specs.Limits.{max_var, max_literals}
 use Rattle.sat_terms.specs.Literal.{var_of}
 use Rattle.sat_terms.specs.Answer.{Within, NoModel, IsModel, IsCore}
 use Rattle.clause_store.specs.Stored.{FirmTrue, StoreTrue, slot, slot_lits}
@@ -77,7 +78,7 @@ module _ (held : Held) (given : List GivenPart) (pending queried : List ℕ) (ta
 
   -- a clause is given
   pub stands_add : (held' : Held) (lits : List ℕ) (taken' greatest' : ℕ)
-      → Takes held.store held'.store lits → held'.declared ≡ held.declared → taken' ≤ 2 ^ 27 → greatest ≤ greatest' → greatest' ≤ 4194303 → Within greatest' lits
+      → Takes held.store held'.store lits → held'.declared ≡ held.declared → taken' ≤ max_literals → greatest ≤ greatest' → greatest' ≤ max_var → Within greatest' lits
       → Stands held' (given ++ Clause lits ∷ []) pending queried taken' greatest' (settled || (length lits == 0)) Input
   stands_add held' lits taken' greatest' takes same room le few within = record {
     stored = stands_for_taken held held' given greatest' lits takes same within (stands_for_more held given greatest greatest' le s.stored);

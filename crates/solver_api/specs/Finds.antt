@@ -1,5 +1,6 @@
 -- What a query finds.
-use Rattle.std.specs.Prelude.{◌≡◌, ◌<◌, ◌^◌, ℕ, List, Option}
+use Rattle.std.specs.Prelude.{◌≡◌, ◌<◌, ℕ, List, Option}
+use Rattle.sat_terms.specs.Limits.{max_number}
 use Rattle.sat_terms.specs.Answer.{IsModel, IsCore}
 use Rattle.clause_store.specs.Stored.{Stored, FirmTrue, StoreTrue}
 use Rattle.conflict_analysis.specs.Counting.{Counted}
@@ -12,7 +13,7 @@ use Rattle.solver_api.specs.declared.engine.Answer.TheVariants.{Model, Core, Spe
 abbrev pub Finds : List (Option Stored) → List ℕ → ℕ → ℕ → Answer → Type 0
 Finds s assumed n budget (Model m) = IsModel (FirmTrue s) assumed n m
 Finds s assumed n budget (Core core) = IsCore (StoreTrue s) assumed core
-Finds s assumed n budget (Spent (Conflicts count)) = (count ≡ budget) × (count < 2 ^ 62)
+Finds s assumed n budget (Spent (Conflicts count)) = (count ≡ budget) × (count < max_number)
 
 -- Where a budget was used up, the tally has counted as many conflicts as that says, and is spent.
 abbrev pub IsCaused : Answer → Counted → Type 0

@@ -1,5 +1,6 @@
 -- What holds of every solver between two calls.
-use Rattle.std.specs.Prelude.{◌≡◌, ℕ, ◌^◌, ◌≤◌, Bool, true, List, []}
+use Rattle.std.specs.Prelude.{◌≡◌, ℕ, ◌≤◌, Bool, true, List, []}
+use Rattle.sat_terms.specs.Limits.{max_var, max_literals}
 use Rattle.sat_terms.specs.Truth.{Assignment}
 use Rattle.sat_terms.specs.Answer.{Within, NoModel, IsModel}
 use Rattle.clause_store.specs.Stored.{FirmTrue, StoreTrue}
@@ -22,8 +23,8 @@ pub record Stands (engine : Held) (given : List GivenPart) (pending queried : Li
   pub stored : StandsFor engine given greatest
   -- every variable of an assumption is at most the greatest named one
   pub pending_within : Within greatest pending
-  pub few : greatest ≤ 4194303
-  pub room : taken ≤ 2 ^ 27
+  pub few : greatest ≤ max_var
+  pub room : taken ≤ max_literals
   -- the model that is shown is one of what was given and of the assumptions
   pub model_good : (m : List Bool) → mode ≡ Sat m → IsModel (GivenTrue given) queried greatest m
   -- no assignment makes what was given and the core that is shown true

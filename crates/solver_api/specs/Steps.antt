@@ -1,5 +1,6 @@
 -- What a solver shows, and what its calls do to that (IPASIR's calls, with a refusal beside each answer).
-use Rattle.std.specs.Prelude.{◌≡◌, ℕ, ◌+◌, ◌^◌, ◌<◌, ◌≤◌, ◌||◌, ◌==◌, max, min, Bool, true, false, List, [], ◌∷◌, ◌++◌, length, Option, Some, None, Result, Ok, Err}
+use Rattle.std.specs.Prelude.{◌≡◌, ℕ, ◌+◌, ◌<◌, ◌≤◌, ◌||◌, ◌==◌, max, min, Bool, true, false, List, [], ◌∷◌, ◌++◌, length, Option, Some, None, Result, Ok, Err}
+use Rattle.sat_terms.specs.Limits.{max_number, max_literals}
 use Rattle.sat_terms.specs.Literal.{var_of, has}
 use Rattle.sat_terms.specs.Truth.{values, lit_true}
 use Rattle.sat_terms.specs.Answer.{greatest_var, IsModel, IsCore}
@@ -49,18 +50,18 @@ unused = record { given = []; pending = []; queried = []; taken = 0; settled = f
 abbrev pub InRange : Call → Type 0
 InRange (Add lits) = Unit {0}
 InRange (Assume lit) = Unit {0}
-InRange (Solve budget limit) = (budget.conflicts ≤ 2 ^ 62) × (budget.callbacks ≤ 2 ^ 62) × (limit ≤ 2 ^ 62)
+InRange (Solve budget limit) = (budget.conflicts ≤ max_number) × (budget.callbacks ≤ max_number) × (limit ≤ max_number)
 
 -- what an accepted call does and answers
 abbrev pub Accepted : State → Call → Reply → State → Type 0
-Accepted old (Add lits) Done new = (old.taken + length lits ≤ 2 ^ 27) × (new ≡ record old {
+Accepted old (Add lits) Done new = (old.taken + length lits ≤ max_literals) × (new ≡ record old {
   given = old.given ++ Clause lits ∷ [];
   taken = old.taken + length lits;
   settled = old.settled || (length lits == 0);
   greatest = max old.greatest (greatest_var lits);
   mode = modes.Input;
 })
-Accepted old (Assume lit) Done new = (old.taken + 1 ≤ 2 ^ 27) × (new ≡ record old {
+Accepted old (Assume lit) Done new = (old.taken + 1 ≤ max_literals) × (new ≡ record old {
   pending = old.pending ++ lit ∷ [];
   taken = old.taken + 1;
   greatest = max old.greatest (var_of lit);
@@ -70,16 +71,16 @@ Accepted old (Solve budget limit) (Solved Sat) new = (m : List Bool) × IsModel 
     × (new ≡ record old { pending = []; queried = old.pending; mode = modes.Sat m })
 Accepted old (Solve budget limit) (Solved Unsat) new = (core : List ℕ) × IsCore (GivenTrue old.given) old.pending core × (old.settled ≡ true → core ≡ [])
     × (new ≡ record old { pending = []; queried = old.pending; settled = old.settled || (length core == 0); mode = modes.Unsat core })
-Accepted old (Solve budget limit) (Solved (Unknown (Conflicts n))) new = (n ≡ budget.conflicts) × (n < 2 ^ 62) × (old.settled ≡ false)
+Accepted old (Solve budget limit) (Solved (Unknown (Conflicts n))) new = (n ≡ budget.conflicts) × (n < max_number) × (old.settled ≡ false)
     × (new ≡ record old { pending = []; queried = old.pending; mode = modes.Input })
 Accepted old call reply new = ⊥
 
 -- what a refused call leaves, and when a refusal comes
 abbrev pub Refused : State → Call → Refusal → State → Type 0
-Refused old (Add lits) (refusals.TooManyLiterals count) new = (count ≡ old.taken + length lits) × (2 ^ 27 < count) × (new ≡ old)
-Refused old (Assume lit) (refusals.TooManyLiterals count) new = (count ≡ old.taken + 1) × (2 ^ 27 < count) × (new ≡ old)
-Refused old (Add lits) refusals.Memory new = (old.taken + length lits ≤ 2 ^ 27) × (new ≡ record old { mode = modes.Input })
-Refused old (Assume lit) refusals.Memory new = (old.taken + 1 ≤ 2 ^ 27) × (new ≡ record old { mode = modes.Input })
+Refused old (Add lits) (refusals.TooManyLiterals count) new = (count ≡ old.taken + length lits) × ( max_literals < count) × (new ≡ old)
+Refused old (Assume lit) (refusals.TooManyLiterals count) new = (count ≡ old.taken + 1) × ( max_literals < count) × (new ≡ old)
+Refused old (Add lits) refusals.Memory new = (old.taken + length lits ≤ max_literals) × (new ≡ record old { mode = modes.Input })
+Refused old (Assume lit) refusals.Memory new = (old.taken + 1 ≤ max_literals) × (new ≡ record old { mode = modes.Input })
 Refused old (Solve budget limit) refusals.Memory new = new ≡ record old { pending = []; mode = modes.Input }
 Refused old call why new = ⊥
 
@@ -101,7 +102,7 @@ no_stats = record { conflicts = 0; callbacks = 0; removed = 0; restored = 0 }
 -- What a solve counted, refused or not: its conflicts are the rise of the total of all conflicts ever counted, which stops at
 -- 2^62. A settled solver counts nothing.
 pub record CountsSolve (old new : Solver) : Type 0 where
-  pub total : new.engine.tally.total ≡ min (old.engine.tally.total + new.stats.conflicts) (2 ^ 62)
+  pub total : new.engine.tally.total ≡ min (old.engine.tally.total + new.stats.conflicts) max_number
   pub others : new.stats ≡ record no_stats { conflicts = new.stats.conflicts }
   pub settled : old.settled ≡ true → new.stats ≡ no_stats
 

@@ -3,7 +3,8 @@
 //! It puts clauses into normal form, keeps one core from query to query, and lays it to rest after
 //! each search, whatever that answered. A model goes out with its memory, and comes back with the
 //! next query.
-ghost use Rattle.std.specs.Prelude.{◌≡◌, ◌≤◌, ◌^◌, [], IfOk, OnOk, OnErr};
+ghost use Rattle.std.specs.Prelude.{◌≡◌, ◌≤◌, [], IfOk, OnOk, OnErr};
+ghost use Rattle.sat_terms.specs.Limits.{max_number, max_var};
 ghost use Rattle.sat_terms.specs.Answer.{Within};
 ghost use Rattle.search_engine.specs.Searching.{clauses, StoreWithin, Learns, IsStanding, IsAtRest, CountsFrom};
 ghost use Rattle.solver_api.specs.Held.{Takes};
@@ -59,12 +60,12 @@ fn find(
     vars: u32,
     budget: Budget,
 ) -> Result<Answer, Memory>
-    requires few { vars ≤ 4194303 }
+    requires few { vars ≤ max_var }
     requires rest { IsAtRest core.old }
     requires within { StoreWithin vars (clauses core.old) }
     requires assumed { Within vars assumptions.now }
     requires declared { core.old.order.declared ≤ vars }
-    requires budget { budget.conflicts ≤ 2 ^ 62 }
+    requires budget { budget.conflicts ≤ max_number }
     ensures finds { IfOk result (Finds (clauses core.old) assumptions.now vars budget.conflicts) }
     ensures caused { IfOk result (λ answer. IsCaused answer core.new.tally) }
     ensures counted { CountsFrom core.old.tally.total core.new.tally }
@@ -133,7 +134,7 @@ impl Engine {
 
     // Totals stop at 2^62. The call does nothing.
     pub(crate) fn law_total(&self)
-        ensures { self.now.tally.total ≤ 2 ^ 62 }
+        ensures { self.now.tally.total ≤ max_number }
     {
         self.core.tally.total();
     }
@@ -157,11 +158,11 @@ impl Engine {
         vars: u32,
         budget: Budget,
     ) -> Result<Answer, Memory>
-        requires few { vars ≤ 4194303 }
+        requires few { vars ≤ max_var }
         requires within { StoreWithin vars self.old.store }
         requires assumed { Within vars assumptions.now }
         requires declared { self.old.declared ≤ vars }
-        requires budget { budget.conflicts ≤ 2 ^ 62 }
+        requires budget { budget.conflicts ≤ max_number }
         ensures finds { IfOk result (Finds self.old.store assumptions.now vars budget.conflicts) }
         ensures caused { IfOk result (λ answer. IsCaused answer self.new.tally) }
         ensures counted { CountsFrom self.old.tally.total self.new.tally }

@@ -1,14 +1,15 @@
 //! Lists of literals.
 ghost use Rattle.std.specs.Prelude.{◌≡◌, ◌≤◌, ◌||◌, ◌==◌, max, length};
+ghost use Rattle.sat_terms.specs.Limits.{max_var};
 ghost use Rattle.sat_terms.specs.Answer.{Within, greatest_var};
 
 use sat_model::literal::Lit;
 
 // The greatest variable of the literals, or `most` where that is greater.
 pub(crate) fn greatest_of(most: u32, lits: &[Lit]) -> u32
-    requires { most ≤ 4194303 }
+    requires { most ≤ max_var }
     ensures value { result ≡ max most (greatest_var lits.now) }
-    ensures few { result ≤ 4194303 }
+    ensures few { result ≤ max_var }
     ensures within { Within result lits.now }
 {
     let mut greatest = most;

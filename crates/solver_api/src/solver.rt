@@ -4,7 +4,8 @@
 //! answers. What they do is one relation, `Step` (specs/Steps.antt), of the state before, the call,
 //! its answer and the state after. The engine below stores normal forms and searches; what ties
 //! them to what was given is `Stands` (specs/Standing.antt), which holds between any two calls.
-ghost use Rattle.std.specs.Prelude.{◌≡◌, ◌≤◌, ◌^◌, ◌∷◌, ◌++◌, [], true, IfOk, IfErr, OnOk, OnErr, Some, None, length};
+ghost use Rattle.std.specs.Prelude.{◌≡◌, ◌≤◌, ◌∷◌, ◌++◌, [], true, IfOk, IfErr, OnOk, OnErr, Some, None, length};
+ghost use Rattle.sat_terms.specs.Limits.{max_number, max_var};
 ghost use Rattle.sat_terms.specs.Answer.{Within, IsModel, NoModel};
 ghost use Rattle.search_engine.specs.Searching.{StoreWithin, Learns, CountsFrom};
 ghost use Rattle.solver_api.specs.Finds.{Finds, IsCaused};
@@ -111,11 +112,11 @@ fn search(
     vars: u32,
     budget: Budget,
 ) -> Result<Answer, Memory>
-    requires few { vars ≤ 4194303 }
+    requires few { vars ≤ max_var }
     requires within { StoreWithin vars engine.old.store }
     requires assumed { Within vars assumptions.now }
     requires declared { engine.old.declared ≤ vars }
-    requires budget { budget.conflicts ≤ 2 ^ 62 }
+    requires budget { budget.conflicts ≤ max_number }
     ensures finds { IfOk result (Finds engine.old.store assumptions.now vars budget.conflicts) }
     ensures caused { IfOk result (λ answer. IsCaused answer engine.new.tally) }
     ensures counted { CountsFrom engine.old.tally.total engine.new.tally }
@@ -202,9 +203,9 @@ impl Solver {
     /// pass of simplification; no pass runs yet, so it has no effect, and nor has the budget of
     /// callbacks. The one refusal is `Memory`: no answer is shown.
     pub fn solve(&mut self, budget: Budget, limit: u64) -> Result<Outcome, Refusal>
-        requires conflicts { budget.conflicts ≤ 2 ^ 62 }
-        requires callbacks { budget.callbacks ≤ 2 ^ 62 }
-        requires limit { limit ≤ 2 ^ 62 }
+        requires conflicts { budget.conflicts ≤ max_number }
+        requires callbacks { budget.callbacks ≤ max_number }
+        requires limit { limit ≤ max_number }
         ensures step { Step (state self.old) (calls.Solve budget limit) (solved result) (state self.new) }
         ensures counted { IfOk result (λ outcome. IsCounted outcome self.new) }
         ensures counts { CountsSolve self.old self.new }
@@ -291,7 +292,7 @@ impl Solver {
     pub fn model(&self) -> Result<&[bool], Refusal>
         ensures shown { IfOk result (λ m. model_of (state self.now).mode ≡ Some m.now) }
         ensures good { IfOk result (λ m. IsModel (GivenTrue (state self.now).given) (state self.now).queried (state self.now).greatest m.now) }
-        ensures few { IfOk result (λ m. length m.now ≤ 4194303) }
+        ensures few { IfOk result (λ m. length m.now ≤ max_var) }
         ensures none { IfErr result (λ e. (e ≡ Refusal.NotSat) × (model_of (state self.now).mode ≡ None)) }
     {
         match &self.mode {

@@ -1,9 +1,10 @@
 -- What a literal more, and a variable more, make of the table and the shape.
-use Rattle.std.proofs.Common.{◌≡◌, ◌≢◌, ℕ, suc, zero, ◌+◌, ◌-◌, ◌^◌, ◌<◌, ◌≤◌, false, cond, eqb, List, [], ◌∷◌, ◌++◌, length, length-set, get_or, set, take, replicate, length-append, ◌⊎◌, inl, inr, refl, sym, ap, ◌∙◌, arith, append_assoc, None}
+use Rattle.std.proofs.Common.{◌≡◌, ◌≢◌, ℕ, suc, zero, ◌+◌, ◌-◌, ◌<◌, ◌≤◌, false, cond, eqb, List, [], ◌∷◌, ◌++◌, length, length-set, get_or, set, take, replicate, length-append, ◌⊎◌, inl, inr, refl, sym, ap, ◌∙◌, arith, append_assoc, None}
 use Rattle.std.specs.Prelude.{count_by, sum_by}
 use Rattle.std.proofs.lemmas.Bool.{cases_eq, cases_lt, ne_eqb}
 use Rattle.std.proofs.lemmas.List.{append-nil, length-map, take_all, length-replicate, get_or_append_left, get_or_push, get_or-set_same, get_or-set_other, length_push}
 use Rattle.std.proofs.lemmas.List.Sums.{sum_by-set, sum_by_push}
+use Rattle.sat_terms.specs.Limits.{max_var}
 use Rattle.sat_terms.specs.Literal.{var_of}
 use Rattle.trail_state.specs.declared.trail.Step.{Step}
 use Rattle.trail_state.specs.declared.reason.Reason.{Reason}
@@ -126,7 +127,7 @@ shape_push t top top' x shape other after lev = record {
 }
 
 -- the table with a variable more
-pub table_wider : (p : List ℕ) (t : List Step) → TableFits p t → length p + 1 < 2 ^ 22 → TableFits (p ++ 0 ∷ []) t
+pub table_wider : (p : List ℕ) (t : List Step) → TableFits p t → length p < max_var → TableFits (p ++ 0 ∷ []) t
 table_wider p t fits few =
     let long = length_push p 0 in
     record {
@@ -155,7 +156,7 @@ table_wider p t fits few =
     }
 
 -- the table with some variables more
-pub table_widest : (n : ℕ) (p : List ℕ) (t : List Step) → TableFits p t → length p + n < 2 ^ 22 → TableFits (p ++ replicate n 0) t
+pub table_widest : (n : ℕ) (p : List ℕ) (t : List Step) → TableFits p t → length p + n ≤ max_var → TableFits (p ++ replicate n 0) t
 table_widest zero p t fits few = rw (append-nil p) fits
 table_widest (suc n) p t fits few =
     let long = length_push p 0 in
@@ -163,7 +164,7 @@ table_widest (suc n) p t fits few =
     rw (← append_assoc p (0 ∷ []) (replicate n 0)) (table_widest n (p ++ 0 ∷ []) t fits' (rw long (omega arith)))
 
 -- what `declare` makes of the table, as the code reads it
-pub table_declared : (p p' : List ℕ) (t : List Step) (had count : ℕ) → TableFits p t → had ≡ length p → had < count → count < 2 ^ 22 → p' ≡ take count p ++ replicate (count - had) 0
+pub table_declared : (p p' : List ℕ) (t : List Step) (had count : ℕ) → TableFits p t → had ≡ length p → had < count → count ≤ max_var → p' ≡ take count p ++ replicate (count - had) 0
     → TableFits p' t × (length p' ≡ count)
 table_declared p p' t had count fits is more few p-is =
     let zeros : List ℕ = replicate (count - had) 0 in

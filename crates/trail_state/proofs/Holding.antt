@@ -1,8 +1,9 @@
 -- What each call makes of the tables.
-use Rattle.std.proofs.Common.{◌≡◌, ◌≢◌, ℕ, suc, zero, ◌+◌, ◌-◌, ◌^◌, ◌<◌, ◌≤◌, Bool, false, List, [], ◌∷◌, ◌++◌, length, length-set, get_or, set, take, replicate, inl, inr, refl, sym, ap, ◌∙◌, arith, Some, None, length-append, add-one}
+use Rattle.std.proofs.Common.{◌≡◌, ◌≢◌, ℕ, suc, zero, ◌+◌, ◌-◌, ◌<◌, ◌≤◌, Bool, false, List, [], ◌∷◌, ◌++◌, length, length-set, get_or, set, take, replicate, inl, inr, refl, sym, ap, ◌∙◌, arith, Some, None, length-append, add-one}
 use Rattle.std.specs.Prelude.{map}
 use Rattle.std.proofs.lemmas.Bool.{cases_eq, cases_lt}
 use Rattle.std.proofs.lemmas.List.{length-map, map-append, map-set, take-map, take_all, length-replicate, length-take, length-take-le, get_or_append_left, get_or_push, get_or-take, get_or_past, get_or_default, get_or_read, get_or-map, length_push}
+use Rattle.sat_terms.specs.Limits.{max_var}
 use Rattle.sat_terms.specs.Literal.{var_of}
 use Rattle.trail_state.specs.declared.trail.Step.{Step}
 use Rattle.trail_state.specs.declared.trail.Entry.{Entry}
@@ -50,7 +51,7 @@ lit_declared ls es th st rl rf rs i h lt =
     (a, omega arith)
 
 -- a trail has no more levels than literals, and no more of these than variables
-pub few_levels : (ls : List ℕ) (es : List Entry) (th : List Bool) (st : List ℕ) (rl rf rs : ℕ) → IsHeld ls es th st rl rf rs → (length st ≤ length ls) × (length ls ≤ length es) × (length es < 2 ^ 22)
+pub few_levels : (ls : List ℕ) (es : List Entry) (th : List Bool) (st : List ℕ) (rl rf rs : ℕ) → IsHeld ls es th st rl rf rs → (length st ≤ length ls) × (length ls ≤ length es) × (length es ≤ max_var)
 few_levels ls es th st rl rf rs h =
     let size = steps-length ls es th st in
     let filled = h.table.filled in
@@ -232,7 +233,7 @@ held_back ls es th st ls' es' th' st' rl rf rs rl' rf' rs' level k h le start f 
         omega arith))
 
 -- more variables are declared
-pub held_declared : (ls : List ℕ) (es : List Entry) (th : List Bool) (st : List ℕ) (es' : List Entry) (rl rf rs rl' rf' rs' had count : ℕ) → IsHeld ls es th st rl rf rs → had ≡ length es → had < count → count < 2 ^ 22 → es' ≡ take count es ++ replicate (count - had) empty_entry
+pub held_declared : (ls : List ℕ) (es : List Entry) (th : List Bool) (st : List ℕ) (es' : List Entry) (rl rf rs rl' rf' rs' had count : ℕ) → IsHeld ls es th st rl rf rs → had ≡ length es → had < count → count ≤ max_var → es' ≡ take count es ++ replicate (count - had) empty_entry
     → count ≤ rl' → count ≤ rf' → count ≤ rs' → (steps_of ls es' th st ≡ steps_of ls es th st) × (length es' ≡ count) × IsHeld ls es' th st rl' rf' rs'
 held_declared ls es th st es' rl rf rs rl' rf' rs' had count h is lt few es-is a b c = (
   same,

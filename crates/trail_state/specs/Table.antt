@@ -1,5 +1,6 @@
 -- The tables behind a trail. The variable v stands in the table of variables at v - 1.
-use Rattle.std.specs.Prelude.{◌≡◌, ◌<◌, ◌≤◌, ◌+◌, ◌-◌, ◌*◌, ◌^◌, ◌==◌, ◌&&◌, ◌++◌, ℕ, zero, suc, Bool, true, false, List, [], ◌∷◌, length, map, nat_lt, replicate, slice_index_or, count_by, Option, None, if◌then◌else◌}
+use Rattle.std.specs.Prelude.{◌≡◌, ◌<◌, ◌≤◌, ◌+◌, ◌-◌, ◌*◌, ◌==◌, ◌&&◌, ◌++◌, ℕ, zero, suc, Bool, true, false, List, [], ◌∷◌, length, map, nat_lt, replicate, slice_index_or, count_by, Option, None, if◌then◌else◌}
+use Rattle.sat_terms.specs.Limits.{max_var}
 use Rattle.sat_terms.specs.Literal.{var_of}
 use Rattle.trail_state.specs.declared.trail.Step.{Step}
 use Rattle.trail_state.specs.declared.trail.Entry.{Entry}
@@ -86,7 +87,7 @@ pub record TableFits (places : List ℕ) (t : List Step) : Type 0 where
   pub back : (v : ℕ) → 0 < v → v ≤ length places → 0 < entry places v → var_of (step t (entry places v - 1)).lit ≡ v
   pub apart : IsApart t
   pub filled : length t + count_by (λ p. p == 0) places ≡ length places
-  pub few : length places < 2 ^ 22
+  pub few : length places ≤ max_var
 
 -- each level above the root starts where the list says
 abbrev pub AllStart : List Step → List ℕ → Type 0

@@ -1,6 +1,7 @@
 -- Trails. A trail is seen as its steps, oldest first, its level and its number of declared variables.
 use Rattle.std.specs.List.{list_any}
-use Rattle.std.specs.Prelude.{◌≡◌, ◌<◌, ◌≤◌, ◌^◌, ◌==◌, ℕ, suc, Bool, true, false, List, [], ◌∷◌, length, map, take, find, slice_index_or, Option, Some, None, option_map, if◌then◌else◌}
+use Rattle.std.specs.Prelude.{◌≡◌, ◌<◌, ◌≤◌, ◌==◌, ℕ, suc, Bool, true, false, List, [], ◌∷◌, length, map, take, find, slice_index_or, Option, Some, None, option_map, if◌then◌else◌}
+use Rattle.sat_terms.specs.Limits.{max_var}
 use Rattle.sat_terms.specs.Literal.{neg, var_of}
 use Rattle.trail_state.specs.declared.trail.Step.{Step}
 use Rattle.trail_state.specs.declared.reason.Reason.{Reason}
@@ -65,7 +66,7 @@ pub record IsTrail (t : List Step) (top : ℕ) : Type 0 where
 
 -- the variables on the trail are declared, and there are as few as that leaves
 pub record HasRoom (t : Trace) : Type 0 where
-  pub few : t.declared < 2 ^ 22
+  pub few : t.declared ≤ max_var
   pub steps : length t.steps ≤ t.declared
   pub levels : t.level ≤ length t.steps
   pub named : (i : ℕ) → i < length t.steps → (0 < var_of (step t.steps i).lit) × (var_of (step t.steps i).lit ≤ t.declared)

@@ -1,6 +1,7 @@
 use Rattle.std.proofs.Common.{◌≡◌, ◌∙◌, ◌+◌, ◌≤◌, subst, sym, ap, refl, arith, Ok, Err, ⊎_elim, inl, inr, List, ℕ, [], ◌∷◌, true}
 use Rattle.std.proofs.lemmas.Bool.{false≢true}
 use Rattle.std.proofs.KnownBytes.{Appends-nil}
+use Rattle.sat_terms.specs.Limits.{max_var}
 use Rattle.io_edge.specs.Reading.{rest_of}
 use Rattle.icnf_reader.specs.ReadState.{ReadState, ReadAnswers, ReadsOver, read_is_last, is_item_fault, lits_in, given, HasVars, IsEndItem}
 use Rattle.icnf_reader.specs.declared.item.Item.{Item}
@@ -125,7 +126,7 @@ loop-lits-preserved-in-Ok-Clause g c =
 
 pub give_reply-requires-clause-vars : goal.give_reply-requires-clause-vars
 give_reply-requires-clause-vars g c =
-    let few : c.in-Ok-Header.header.vars ≤ 4194303 = subst HasVars c.in-Ok-Header.field-0-is c.in-Ok-Header.ensures.vars in
+    let few : c.in-Ok-Header.header.vars ≤ max_var = subst HasVars c.in-Ok-Header.field-0-is c.in-Ok-Header.ensures.vars in
     omega (arith, few)
 
 pub returns-in-Err-Write-clause-begins : goal.returns-in-Err-Write-clause-begins

@@ -1,4 +1,5 @@
-use Rattle.std.proofs.Common.{◌≤◌, ◌+◌, ◌^◌, arith, length}
+use Rattle.std.proofs.Common.{◌≤◌, ◌+◌, arith, length}
+use Rattle.sat_terms.specs.Limits.{max_literals}
 use Rattle.solver_api.proofs.StandingLemmas.{stands_add, stands_input}
 use Rattle.solver_api.proofs.solver.Solver.add.Goals as goal
 
@@ -10,7 +11,7 @@ invariant_of-self c =
 pub invariant_of-self-2 : goal.invariant_of-self-2
 invariant_of-self-2 c =
     let s = c.args.self.now in
-    let room : s.taken + length c.args.lits.now ≤ 2 ^ 27 = omega (arith, c.if-count-self.false, s.stands.room) in
+    let room : s.taken + length c.args.lits.now ≤ max_literals = omega (arith, c.if-count-self.false, s.stands.room) in
     let more : s.greatest ≤ c.greatest_of-self.result = omega (arith, c.greatest_of-self.ensures.value) in
     record {
       stands = rw (c.in_ok-give.ensures.given, c.settles-self.ensures, c.hide.ensures.mode)
