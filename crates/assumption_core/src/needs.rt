@@ -17,9 +17,9 @@ ghost use Rattle.assumption_core.specs.Core.{Both, Starts, asks, falsified_by};
 ghost use Rattle.assumption_core.specs.Needs.{IsMarked, IsDecided, IsNeeded, Takes, HoldsNeeded};
 
 use crate::cores::CoreStart;
-use crate::places::{decided_at, is_decision, place_above_root};
+use crate::places::{decided_at, place_above_root};
 use clause_store::store::Store;
-use rooted_trails::reading::reason_at;
+use rooted_trails::reading::{is_decision, reason_at};
 use sat_model::lists::Lits;
 use sat_model::literal::Lit;
 use sat_model::memory::Memory;

@@ -7,8 +7,8 @@ ghost use Rattle.sat_terms.specs.Literal.{var_of};
 ghost use Rattle.trail_state.specs.Trail.{step};
 ghost use Rattle.trail_state.specs.declared.reason.Reason.TheVariants.{Decision};
 
+use rooted_trails::reading::is_decision;
 use sat_model::literal::{Lit, Var};
-use trail_state::reason::Reason;
 use trail_state::trail::Trail;
 
 // The place of a variable, if it has one above the root.
@@ -25,19 +25,6 @@ pub(crate) fn place_above_root(trail: &Trail, var: Var) -> Option<usize>
         None
     } else {
         Some(place as usize)
-    }
-}
-
-// Whether the literal at a place was decided.
-pub(crate) fn is_decision(trail: &Trail, place: usize) -> bool
-    requires { place < length trail.now.steps }
-    ensures { IsTrue result ↔ ((step trail.now.steps place).reason ≡ Decision) }
-{
-    trail.law_room();
-    match trail.reason_at(place as u32) {
-        Reason::Decision => true,
-        Reason::Clause(_id) => false,
-        Reason::Theory => false,
     }
 }
 

@@ -8,9 +8,9 @@ ghost use Rattle.trail_state.specs.declared.reason.Reason.TheVariants.{Decision}
 ghost use Rattle.assumption_core.specs.Core.{DecidesAssumed};
 
 use crate::cores::{CoreStart, core_of};
-use crate::places::is_decision;
 use clause_store::store::Store;
 use rooted_scenes::scene::{Scene, is_false, lit, lits};
+use rooted_trails::reading::is_decision;
 use sat_model::lists::{ClauseId, Lits};
 use sat_model::literal::Lit;
 use std::alloc::Global;

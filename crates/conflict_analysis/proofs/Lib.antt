@@ -11,3 +11,4 @@ pub mod Mets
 pub mod Variables
 pub mod Turns
 pub mod Clearing
+pub mod Shortening

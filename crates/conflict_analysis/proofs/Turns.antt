@@ -5,6 +5,7 @@ use Rattle.std.proofs.lemmas.Bool.{false≢true, cases_eq}
 use Rattle.std.proofs.lemmas.List.{take_all}
 use Rattle.sat_terms.specs.Literal.{has, neg, var_of}
 use Rattle.sat_terms.specs.Truth.{Implies}
+use Rattle.sat_terms.proofs.Literals.{neg-neg}
 use Rattle.clause_store.specs.Stored.{Stored, slot, slot_lits}
 use Rattle.trail_state.specs.Trail.{Trace, step, true_on, IsTrail, HasRoom}
 use Rattle.trail_state.specs.Clauses.{FalseOn, IsReason}
@@ -14,9 +15,9 @@ use Rattle.rooted_trails.specs.Marks.{flag, Covered, Grows}
 use Rattle.rooted_trails.proofs.Knowing.{stands_of}
 use Rattle.rooted_trails.proofs.Reasons.{live_implied, root_follows}
 use Rattle.conflict_analysis.specs.Learning.{Reaches}
-use Rattle.conflict_analysis.specs.Walking.{Resolvent, marks_on, IsMarking, Resolving, IsResolving, IsResolved}
+use Rattle.conflict_analysis.specs.Walking.{Resolvent, marks_on, IsMarking, Resolving, IsUip, IsResolving, IsResolved}
 use Rattle.conflict_analysis.proofs.Walks.{no_decision, marked_down, resolving_step, resolving_skip, resolving_pos, uip_here}
-use Rattle.conflict_analysis.proofs.Learns.{marked_none, resolving_start}
+use Rattle.conflict_analysis.proofs.Learns.{marked_none, resolving_start, learned_cases}
 use Rattle.conflict_analysis.proofs.Mets.{met_none}
 use Rattle.conflict_analysis.proofs.Variables.{marks_length, marks_read, marks_off, marks_grow}
 
@@ -103,11 +104,18 @@ module _ (s : List (Option Stored)) (tr : Trace) (i : ℕ) (r : Resolvent) (w : 
   pub resolved_here : flag (marks_on r.seen tr.steps) i ≡ true → r.count ≤ 1 → IsResolved s tr i r
   resolved_here on one = record {
     wide = w.wide;
-    uip = uip_here (Known s) tr.steps tr.level i (marks_on r.seen tr.steps) r.count r.lits before shape in' on one;
-    met_all = w.met_all;
+    uip = uip;
     met_false = w.met_false;
-    from = w.from;
-  }
+    from = λ l h.
+        elim (learned_cases (Known s) tr.steps tr.level i (marks_on r.seen tr.steps) r.lits shape uip l h) [
+          | inl a ↦
+              let o = uip.lower_only l a in
+              w.from l (ap (has r.met) (sym (neg-neg l)) ∙ ap (λ x. has r.met (neg x)) (sym o.2) ∙ w.met_all o.0 o.1 o.3)
+          | inr e ↦ w.from l (ap (has r.met) e ∙ w.met_all i in' on)
+        ];
+  } where
+    uip : IsUip (Known s) tr.steps tr.level i (marks_on r.seen tr.steps) r.lits
+    uip = uip_here (Known s) tr.steps tr.level i (marks_on r.seen tr.steps) r.count r.lits before shape in' on one
 
 -- an open place is left below
 pub place_left : (s : List (Option Stored)) (tr : Trace) (i : ℕ) (r : Resolvent) → IsResolving s tr i r → 0 < i

@@ -118,7 +118,6 @@ module _ (F : Assignment → Type 0) (t : List Step) (top i : ℕ) (seen : List 
       let c' : count ≡ open_count t seen top i + 1 = rw open' at c in
       record {
         within = in';
-        here = here;
         top_level = top_here;
         others = λ j lt h.
             let up = below_top 0 t top shape.levels j (omega arith) in
@@ -126,8 +125,9 @@ module _ (F : Assignment → Type 0) (t : List Step) (top i : ℕ) (seen : List 
               | inl e ↦ absurd (let p = open_count-pos t seen top i j lt (and_from (flag seen j) (eqb (step t j).level top) h (eq-eqb (step t j).level top e)) in omega arith)
               | inr n ↦ omega arith
             ];
+        above_root = r.marked.above_root;
         blocked = r.blocked;
-        lower_all = r.marked.lower_all;
+        lower_needed = λ j in'' h low. inl (r.marked.lower_all j in'' h low);
         lower_only = r.marked.lower_only;
       }
 

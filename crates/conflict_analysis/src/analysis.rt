@@ -5,7 +5,8 @@
 //! reasons back to a clause that is false here too, follows from the stored clauses, and has one
 //! literal alone of the current level (walk.rt). So on the way back to the highest of its other
 //! levels it becomes unit, and asserts that literal: the search will not come to this conflict
-//! again. The tally owes the asserting literal until it is on the trail.
+//! again. The tally owes the asserting literal until it is on the trail. Literals of the clause
+//! that follow from its others are dropped (shorten.rt).
 //!
 //! The clause lies in the scratch, as do the literals that were met: nothing is copied out. Its
 //! glue, the number of its levels, says how much it is worth (levels.rt).
@@ -150,6 +151,7 @@ fn learn(
     trail.law_shape();
     begin(store, trail, scratch, conflict)?;
     let at = scratch.find_uip(store, trail)?;
+    scratch.shorten(store, trail, at)?;
     let owed = trail.lits()[at].neg();
     let back_level = highest(trail, scratch.learned());
     scratch.finish(owed)?;

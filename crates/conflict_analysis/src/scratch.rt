@@ -3,8 +3,9 @@
 //! A variable is marked at most once in an analysis, and each marked literal is kept in a list. The
 //! next analysis clears the marks through that list: so nothing that is as long as the trail is
 //! made or cleared at a conflict, which costs what was looked at. The list is also what the order
-//! of decisions wants to hear of: all variables that took part in the conflict.
-ghost use Rattle.std.specs.Prelude.{◌≡◌, ◌<◌, ◌≤◌, ◌+◌, ◌-◌, ◌^◌, ◌++◌, ◌∷◌, [], ℕ, true, false, length, max, OnOk, slice_index_or};
+//! of decisions wants to hear of: all variables that took part in the conflict. Those that are
+//! marked only to shorten the clause (shorten.rt) stand in a list of their own.
+ghost use Rattle.std.specs.Prelude.{◌≡◌, ◌<◌, ◌≤◌, ◌+◌, ◌-◌, ◌^◌, ◌++◌, ◌∷◌, [], ℕ, true, false, length, max, OnOk, ◌⊎◌, slice_index_or, slice_set};
 ghost use Rattle.std.specs.List.Sorted.{IsStrictlyIncreasing};
 ghost use Rattle.sat_terms.specs.Literal.{has, var_of};
 ghost use Rattle.rooted_trails.specs.Marks.{flag};
@@ -12,12 +13,22 @@ ghost use Rattle.conflict_analysis.specs.Learning.{glue_of};
 ghost use Rattle.conflict_analysis.specs.Walking.{IsListed, noted};
 
 use crate::levels::glue;
+use flag_set::set::FlagSet;
 use normal_form::forms::sort_and_dedup;
-use sat_model::literal::Lit;
+use sat_model::literal::{Lit, Var};
 use sat_model::memory::Memory;
 use std::alloc::Global;
 use std::marker::Model;
 use trail_state::trail::Trail;
+
+// A literal whose reason is being looked at.
+#[derive(Clone, Copy)]
+pub(crate) struct Visit {
+    // The literal, or its negation.
+    pub(crate) lit: Lit,
+    // From this place of its reason on nothing was looked at.
+    pub(crate) next: usize,
+}
 
 /// The marks of an analysis, the clause that it learned and the literals that it met, until the
 /// next analysis begins. Contracts see a flag for each marked variable, how many marked literals
@@ -34,6 +45,13 @@ pub struct Scratch {
     count: usize,
     // The literals of the learned clause, at first those below the current level.
     lits: Vec<Lit>,
+    // The literals that were marked since they follow from marked ones: the marks are cleared
+    // through this list too.
+    spare: Vec<Lit>,
+    // The literals whose reasons are being looked at, each in the reason of the one before it.
+    path: Vec<Visit>,
+    // The variables of which it is known that they don't follow from marked ones.
+    needed: FlagSet<Var>,
     // A flag for each level of the learned clause, while these are counted; all are false between
     // two counts.
     levels: Vec<bool>,
@@ -46,19 +64,28 @@ impl Model for Scratch {
 
     ghost view = { λ s. record { seen = s.seen.items; count = s.count; lits = s.lits.items; met = s.met.items } };
 
-    ghost invariant = { λ s. IsScratch s.seen.items s.levels.items s.met.items };
+    ghost invariant = { λ s. IsScratch s.seen.items s.levels.items s.met.items s.spare.items };
 }
 
-// Takes off the marks of the listed literals, and empties the list.
-fn unmark(seen: &mut Vec<bool>, met: &mut Vec<Lit>)
-    requires { IsListed seen.old.items met.old.items }
-    ensures none { (v : ℕ) → flag seen.new.items v ≡ false }
+// Takes off the marks of the listed literals, and empties the list. What stays marked stands in the
+// other list.
+fn unmark(seen: &mut Vec<bool>, listed: &mut Vec<Lit>, others: &[Lit])
+    requires { IsListed seen.old.items (others.now ++ listed.old.items) }
+    ensures marks { IsListed seen.new.items others.now }
     ensures long { length seen.new.items ≡ length seen.old.items }
-    ensures empty { met.new.items ≡ [] }
+    ensures empty { listed.new.items ≡ [] }
 {
-    while let Some(lit) = met.pop() {
+    while let Some(lit) = listed.pop() {
         seen[lit.var().index() as usize] = false;
     }
+}
+
+// Puts the variables of a path into a set, and empties the path.
+fn note_all(set: &mut FlagSet<Var>, path: &mut Vec<Visit>) -> Result<(), Memory> {
+    while let Some(visit) = path.pop() {
+        set.put(visit.lit.var())?;
+    }
+    Ok(())
 }
 
 // Lengthens a list of flags to so many. What is read of it stays as it was; past its end it is read
@@ -86,6 +113,9 @@ impl Scratch {
             met: Vec::new(alloc),
             count: 0,
             lits: Vec::new(alloc),
+            spare: Vec::new(alloc),
+            path: Vec::new(alloc),
+            needed: FlagSet::new(alloc),
             levels: Vec::new(alloc),
         }
     }
@@ -112,7 +142,9 @@ impl Scratch {
         ensures lits { self.new.lits ≡ [] }
         ensures met { self.new.met ≡ [] }
     {
-        unmark(&mut self.seen, &mut self.met);
+        unmark(&mut self.seen, &mut self.met, &self.spare);
+        unmark(&mut self.seen, &mut self.spare, &[]);
+        self.needed.clear();
         self.count = 0;
         self.lits.clear();
     }
@@ -167,6 +199,62 @@ impl Scratch {
         ensures { self.new ≡ record self.old { count = self.old.count - 1 } }
     {
         self.count -= 1;
+    }
+
+    // Marks the variable of a literal that follows from marked ones.
+    pub(crate) fn note_spare(&mut self, lit: Lit) -> Result<(), Memory>
+        requires { var_of lit < length self.old.seen }
+        ensures { OnOk result (self.new ≡ record self.old { seen = slice_set self.old.seen (var_of lit) true }) }
+    {
+        // Here too the list comes first.
+        self.spare.push(lit)?;
+        self.seen[lit.var().index() as usize] = true;
+        Ok(())
+    }
+
+    // Takes a literal off the learned clause. The last one takes its place.
+    pub(crate) fn drop_lit(&mut self, index: usize)
+        requires { index < length self.old.lits }
+        ensures same { self.new ≡ record self.old { lits = self.new.lits } }
+        ensures long { length self.new.lits + 1 ≡ length self.old.lits }
+        ensures left { (l : ℕ) → has self.new.lits l ≡ true → has self.old.lits l ≡ true }
+        ensures gone { (l : ℕ) → has self.old.lits l ≡ true → (has self.new.lits l ≡ true) ⊎ (slice_index_or self.old.lits index l ≡ l) }
+    {
+        self.lits.swap_remove(index);
+    }
+
+    // The path to a literal begins anew.
+    pub(crate) fn start_path(&mut self)
+        ensures { self.new ≡ self.old }
+    {
+        self.path.clear();
+    }
+
+    // The path goes on to a literal.
+    pub(crate) fn enter(&mut self, lit: Lit, next: usize) -> Result<(), Memory>
+        ensures { self.new ≡ self.old }
+    {
+        self.path.push(Visit { lit, next })?;
+        Ok(())
+    }
+
+    // The last literal leaves the path.
+    pub(crate) fn leave(&mut self) -> Option<Visit>
+        ensures { self.new ≡ self.old }
+    {
+        self.path.pop()
+    }
+
+    // Whether it is known that a literal doesn't follow from marked ones.
+    pub(crate) fn is_needed(&self, lit: Lit) -> bool {
+        self.needed.has(lit.var())
+    }
+
+    // What is on the path doesn't follow from marked ones. The path is empty then.
+    pub(crate) fn give_up(&mut self) -> Result<(), Memory>
+        ensures { OnOk result (self.new ≡ self.old) }
+    {
+        note_all(&mut self.needed, &mut self.path)
     }
 
     // Puts a literal to those of the learned clause, and brings these into normal order.

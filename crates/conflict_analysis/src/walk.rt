@@ -10,8 +10,7 @@
 //! from the stored ones (Marques Silva and Sakallah, GRASP, 1996; the first such point: Moskewicz,
 //! Madigan, Zhao, Zhang and Malik, Chaff, 2001).
 //!
-//! Literals of the root are passed over: they follow from the stored clauses. The learned clause is
-//! not shortened further.
+//! Literals of the root are passed over: they follow from the stored clauses.
 ghost use Rattle.std.specs.Prelude.{◌≡◌, ◌<◌, ◌≤◌, ◌+◌, ◌⊎◌, ◌==◌, ℕ, length, true, false, take, OnOk, IfOk};
 ghost use Rattle.sat_terms.specs.Literal.{has, neg, var_of};
 ghost use Rattle.trail_state.specs.Trail.{true_on};

@@ -3,10 +3,11 @@
 //! Both walks over a trail, that of the analysis of conflicts and that of the cores, put for an implied literal the other literals
 //! of its reason. What they need of a reason is said here once: it holds the literal, its other literals are false at earlier
 //! places, and it follows from what is known. So where reasons come from is no matter to the walks.
-ghost use Rattle.std.specs.Prelude.{◌≡◌};
+ghost use Rattle.std.specs.Prelude.{◌≡◌, ◌<◌, length, IsTrue, ◌↔◌};
 ghost use Rattle.sat_terms.specs.Truth.{Implies};
 ghost use Rattle.trail_state.specs.Trail.{step};
 ghost use Rattle.trail_state.specs.Clauses.{IsReason};
+ghost use Rattle.trail_state.specs.declared.reason.Reason.TheVariants.{Decision};
 ghost use Rattle.rooted_trails.specs.Known.{Known, AllStandIn};
 ghost use Rattle.rooted_trails.specs.Rooted.{Rooted, IsImpliedAt, reason_lits};
 
@@ -30,5 +31,18 @@ pub fn reason_at<'a>(store: &'a Store, trail: &Trail, place: usize) -> &'a [Lit]
         Reason::Clause(id) => store.get(id),
         Reason::Decision => unreachable!(),
         Reason::Theory => unreachable!(),
+    }
+}
+
+/// Whether the literal at a place of the trail was decided. The place must be one of the trail.
+pub fn is_decision(trail: &Trail, place: usize) -> bool
+    requires { place < length trail.now.steps }
+    ensures { IsTrue result ↔ ((step trail.now.steps place).reason ≡ Decision) }
+{
+    trail.law_room();
+    match trail.reason_at(place as u32) {
+        Reason::Decision => true,
+        Reason::Clause(_id) => false,
+        Reason::Theory => false,
     }
 }

@@ -8,12 +8,12 @@ use Rattle.conflict_analysis.proofs.analysis.learn.Goals.{After-glue-glue}
 taught : (c : After-glue-glue) → IsLesson c.args.store.now c.args.trail.now c.glue-glue.new.self.lits c.neg-owed.result c.highest-back_level.result
 taught c =
     rw c.glue-glue.ensures.same
-    (lesson c.args.store.now c.args.trail.now c.in_ok-at.at c.find_uip.new.self c.finish.new.self.lits c.neg-owed.result c.highest-back_level.result c.law_shape.ensures c.in_ok-at.ensures c.requires.above
+    (lesson c.args.store.now c.args.trail.now c.in_ok-at.at c.shorten.new.self c.finish.new.self.lits c.neg-owed.result c.highest-back_level.result c.requires.rooted c.law_shape.ensures c.in_ok-shorten.ensures c.requires.above
     (record {
       bound = rw c.learned.ensures at c.highest-back_level.ensures.bound;
       attained = rw c.learned.ensures at c.highest-back_level.ensures.attained;
     })
-    (c.neg-owed.ensures ∙ ap neg (lit_read c.args.trail.now.steps c.in_ok-at.at c.index-lits-at.result c.in_ok-at.ensures.uip.within (rw c.lits.ensures at c.index-lits-at.is)))
+    (c.neg-owed.ensures ∙ ap neg (lit_read c.args.trail.now.steps c.in_ok-at.at c.index-lits-at.result c.in_ok-shorten.ensures.uip.within (rw c.lits.ensures at c.index-lits-at.is)))
     c.in_ok-finish.ensures.rising c.in_ok-finish.ensures.same)
 
 pub returns-clause-normal : goal.returns-clause-normal
