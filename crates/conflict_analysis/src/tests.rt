@@ -221,6 +221,43 @@ fn conflicts_teach(rt: HostRuntime) -> Result<(), Fail> {
             glue: 2,
             owed: -4,
         },
+        // 2 follows from 1, so it goes.
+        Row {
+            clauses: &[&[-1, 2], &[-3, 4], &[-1, -2, -3, -4]],
+            trail: &[(1, 0), (2, 1), (3, 0), (4, 2)],
+            conflict: 3,
+            learned: &[-1, -3],
+            back_level: 1,
+            glue: 2,
+            owed: -3,
+        },
+        // 8 follows from 1 by a path over 2, 5 and 6, which are in no clause that is resolved on.
+        Row {
+            clauses: &[
+                &[-1, 2],
+                &[-2, 5],
+                &[-1, -5, 6],
+                &[-2, -6, 8],
+                &[-3, 4],
+                &[-1, -3, -4, -8],
+            ],
+            trail: &[(1, 0), (2, 1), (5, 2), (6, 3), (8, 4), (3, 0), (4, 5)],
+            conflict: 6,
+            learned: &[-1, -3],
+            back_level: 1,
+            glue: 2,
+            owed: -3,
+        },
+        // 5 and 6 follow from the decision 2, which is not in the clause, so they stay.
+        Row {
+            clauses: &[&[-2, 5], &[-2, -5, 6], &[-3, 4], &[-3, -4, -5, -6]],
+            trail: &[(2, 0), (5, 1), (6, 2), (3, 0), (4, 3)],
+            conflict: 4,
+            learned: &[-3, -5, -6],
+            back_level: 1,
+            glue: 2,
+            owed: -3,
+        },
         Row {
             clauses: &[&WIDE],
             trail: &DECIDED,
@@ -243,7 +280,7 @@ fn conflicts_teach(rt: HostRuntime) -> Result<(), Fail> {
     for row in &rows {
         assert!(rt; teaches(rt.alloc(), row, &mut scratch, &mut tally)?);
     }
-    assert_eq!(rt; tally.total(), 5);
+    assert_eq!(rt; tally.total(), 8);
     Ok(())
 }
 
