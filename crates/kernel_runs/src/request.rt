@@ -1,4 +1,10 @@
 //! What a line asks for, and what is reported.
+//!
+//! The program is measured from outside: a script writes one line for each run, the name of a kind
+//! of work and how many clauses it is over, and reads one line for each, the work and what it left.
+//! So one build serves all sizes and kinds, the script takes the times, and a run whose counts are
+//! not those that were asked for is seen in the report. The number is bounded, since each clause
+//! has variables of its own and these must be variables of the store.
 use std::fmt;
 
 // The most clauses of a run, so that their variables are variables.
