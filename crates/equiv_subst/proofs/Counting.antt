@@ -1,11 +1,11 @@
 -- Laws of how many slots of a store pass a test.
-use Rattle.std.proofs.Common.{◌≡◌, ◌≢◌, ℕ, suc, zero, ◌+◌, ◌<◌, ◌≤◌, Bool, true, false, cond, eqb, List, [], ◌∷◌, length, get_or, max, Option, Some, None, inl, inr, ◌⊎◌, refl, sym, ap, ◌∙◌, subst, arith}
+use Rattle.std.proofs.Common.{◌≡◌, ◌≢◌, ℕ, suc, zero, ◌+◌, ◌<◌, ◌≤◌, Bool, true, false, cond, eqb, List, [], ◌∷◌, length, get_or, max, Option, Some, None, inl, inr, ◌⊎◌, refl, sym, ap, ◌∙◌, subst, arith, count_by}
+use Rattle.std.proofs.lemmas.List.Sums.{sum_by-cons}
 use Rattle.std.proofs.lemmas.Bool.{cases_Bool, cases_eq, cases_lt, false≢true, false_from_ne_true, eq-eqb, ne_eqb, eqb-true}
 use Rattle.clause_store.specs.Stored.{Stored, keeps_firm, slot, slot_lits, is_firm, Fills, Frees}
 use Rattle.clause_store.specs.Listing.{times, HasEachOnce, firm_at}
 use Rattle.clause_store.proofs.Counts.{times-cons, times_at, times_place}
 use Rattle.pass_terms.specs.Firm.{firm}
-use Rattle.equiv_subst.specs.Clauses.{count, one_if}
 
 -- a sum over the numbers below n
 abbrev pub tally : (ℕ → ℕ) → ℕ → ℕ
@@ -67,20 +67,23 @@ slot_within p [] k h a = absurd (false≢true (sym h ∙ a))
 slot_within p (x ∷ s) zero h a = omega arith
 slot_within p (x ∷ s) (suc k) h a = let r = slot_within p s k h a in omega arith
 
-pub count_tally : (p : Option Stored → Bool) (s : List (Option Stored)) (n : ℕ) → p None ≡ false → length s ≤ n → count p s ≡ tally (λ k. one_if (p (slot s k))) n
+-- one where a test passes
+abbrev pub one_if : Bool → ℕ
+one_if b = cond b 1 0
+
+pub count_tally : (p : Option Stored → Bool) (s : List (Option Stored)) (n : ℕ) → p None ≡ false → length s ≤ n → count_by p s ≡ tally (λ k. one_if (p (slot s k))) n
 count_tally p [] n h le = sym (tally_same (λ k. one_if (p None)) (λ _. 0) n (λ k lt. ap one_if h) ∙ tally_zero n)
 count_tally p (x ∷ s) zero h le = absurd (omega arith)
-count_tally p (x ∷ s) (suc n) h le = let r = count_tally p s n h (omega arith) in ap (λ (z : ℕ). one_if (p x) + z) r
+count_tally p (x ∷ s) (suc n) h le =
+    let r = count_tally p s n h (omega arith) in ap (λ (z : ℕ). one_if (p x) + z) r
 
-pub count_firm : (s : List (Option Stored)) → count is_firm s ≡ length (firm s)
+pub count_firm : (s : List (Option Stored)) → count_by is_firm s ≡ length (firm s)
 count_firm [] = refl
-count_firm (None ∷ s) = let r = count_firm s in omega arith
+count_firm (None ∷ s) = sum_by-cons (λ (z : Option Stored). one_if (is_firm z)) None s ∙ count_firm s
 count_firm (Some c ∷ s) =
+    let e = sum_by-cons (λ (z : Option Stored). one_if (is_firm z)) (Some c) s in
     let r = count_firm s in
-    elim (cases_Bool (keeps_firm c.keep)) [ inl a ↦ rw a (omega arith) | inr a ↦ rw a (omega arith) ]
-
-pub firm_none : is_firm None ≡ false
-firm_none = refl
+    elim (cases_Bool (keeps_firm c.keep)) [ inl a ↦ e ∙ rw a (omega (arith, r)) | inr a ↦ e ∙ rw a (omega (arith, r)) ]
 
 -- the ids of the firm clauses are as many as these
 pub listed : (test : ℕ → Bool) (ids : List ℕ) (k : ℕ) → HasEachOnce test ids → k < length ids → test (get_or ids k 0) ≡ true
@@ -102,7 +105,7 @@ count_ids s ids h =
     a ∙ b ∙ sym (count_tally is_firm s (length s) refl (omega arith)) ∙ count_firm s
 
 -- a store with one clause more, or one fewer
-pub count_filled : (p : Option Stored → Bool) (s t : List (Option Stored)) (id : ℕ) (c : Stored) → p None ≡ false → Fills s t id c → count p t ≡ count p s + one_if (p (Some c))
+pub count_filled : (p : Option Stored → Bool) (s t : List (Option Stored)) (id : ℕ) (c : Stored) → p None ≡ false → Fills s t id c → count_by p t ≡ count_by p s + one_if (p (Some c))
 count_filled p s t id c h fills =
     let n : ℕ = max (suc id) (max (length s) (length t)) in
     let a = count_tally p s n h (omega arith) in
@@ -122,7 +125,7 @@ count_filled p s t id c h fills =
           rw m (omega arith))
     ]
 
-pub count_freed : (p : Option Stored → Bool) (s t : List (Option Stored)) (id : ℕ) → p None ≡ false → Frees s t id → count p s ≡ count p t + one_if (p (slot s id))
+pub count_freed : (p : Option Stored → Bool) (s t : List (Option Stored)) (id : ℕ) → p None ≡ false → Frees s t id → count_by p s ≡ count_by p t + one_if (p (slot s id))
 count_freed p s t id h frees =
     let n : ℕ = max (suc id) (max (length s) (length t)) in
     let a = count_tally p s n h (omega arith) in
@@ -142,13 +145,15 @@ count_freed p s t id h frees =
           rw m (omega arith))
     ]
 
-pub count_le : (p q : Option Stored → Bool) (s : List (Option Stored)) → ((x : Option Stored) → p x ≡ true → q x ≡ true) → count p s ≤ count q s
+pub count_le : (p q : Option Stored → Bool) (s : List (Option Stored)) → ((x : Option Stored) → p x ≡ true → q x ≡ true) → count_by p s ≤ count_by q s
 count_le p q [] h = omega arith
 count_le p q (x ∷ s) h =
     let r = count_le p q s h in
+    let a = sum_by-cons (λ z. one_if (p z)) x s in
+    let b = sum_by-cons (λ z. one_if (q z)) x s in
     elim (cases_Bool (p x)) [
-      | inl y ↦ (let z = h x y in rw (y, z) (omega arith))
-      | inr m ↦ rw m (omega arith)
+      | inl y ↦ (let c : one_if (p x) ≡ 1 = ap one_if y in let d : one_if (q x) ≡ 1 = ap one_if (h x y) in omega (arith, a, b, c, d, r))
+      | inr m ↦ (let c : one_if (p x) ≡ 0 = ap one_if m in omega (arith, a, b, c, r))
     ]
 
 -- two slots that pass, and three
@@ -157,7 +162,7 @@ without_one f n i in' h =
     let at : ◌≡◌ {A = ℕ} (cond (eqb i i) 0 (f i)) 0 = rw (eq-eqb i i refl) refl in
     tally_more (λ k. cond (eqb k i) 0 (f k)) f n i in' (omega arith) (λ k ne. rw (ne_eqb k i ne) refl)
 
-pub count_two : (p : Option Stored → Bool) (s : List (Option Stored)) (i j : ℕ) → p None ≡ false → i ≢ j → p (slot s i) ≡ true → p (slot s j) ≡ true → 2 ≤ count p s
+pub count_two : (p : Option Stored → Bool) (s : List (Option Stored)) (i j : ℕ) → p None ≡ false → i ≢ j → p (slot s i) ≡ true → p (slot s j) ≡ true → 2 ≤ count_by p s
 count_two p s i j h ne a b =
     let n : ℕ = length s in
     let f : ℕ → ℕ = λ k. one_if (p (slot s k)) in
@@ -167,7 +172,7 @@ count_two p s i j h ne a b =
     let c = count_tally p s n h (omega arith) in
     omega arith
 
-pub count_three : (p : Option Stored → Bool) (s : List (Option Stored)) (i j k : ℕ) → p None ≡ false → i ≢ j → i ≢ k → j ≢ k → p (slot s i) ≡ true → p (slot s j) ≡ true → p (slot s k) ≡ true → 3 ≤ count p s
+pub count_three : (p : Option Stored → Bool) (s : List (Option Stored)) (i j k : ℕ) → p None ≡ false → i ≢ j → i ≢ k → j ≢ k → p (slot s i) ≡ true → p (slot s j) ≡ true → p (slot s k) ≡ true → 3 ≤ count_by p s
 count_three p s i j k h ij ik jk a b c =
     let n : ℕ = length s in
     let f : ℕ → ℕ = λ m. one_if (p (slot s m)) in

@@ -1,5 +1,5 @@
 -- What the pass keeps from round to round.
-use Rattle.std.proofs.Common.{◌≡◌, ◌≢◌, ℕ, suc, zero, ◌+◌, ◌-◌, ◌*◌, ◌/◌, ◌%◌, ◌<◌, ◌≤◌, Bool, true, false, not, eqb, ◌||◌, List, [], ◌∷◌, ◌++◌, length, get_or, Option, Some, None, Result, Ok, Err, inl, inr, ◌⊎◌, refl, sym, ap, ◌∙◌, subst, arith}
+use Rattle.std.proofs.Common.{◌≡◌, ◌≢◌, ℕ, suc, zero, ◌+◌, ◌-◌, ◌*◌, ◌/◌, ◌%◌, ◌<◌, ◌≤◌, Bool, true, false, not, eqb, ◌||◌, List, [], ◌∷◌, ◌++◌, length, get_or, Option, Some, None, Result, Ok, Err, inl, inr, ◌⊎◌, refl, sym, ap, ◌∙◌, subst, arith, count_by}
 use Rattle.std.proofs.lemmas.Bool.{false≢true, cases_Bool, cases_eq, cases_lt, false_from_ne_true, or_cases, or_left, or_right, eqb-true, eq-eqb, ne_eqb}
 use Rattle.std.proofs.lemmas.List.{get_or_default}
 use Rattle.std.proofs.Math.Nat.{mul-le-mul_left}
@@ -13,7 +13,7 @@ use Rattle.rule_kernel.specs.State.{State}
 use Rattle.rule_kernel.specs.Rules.{firm_clause, AddsImplied}
 use Rattle.pass_terms.specs.Firm.{firm, stands}
 use Rattle.rule_kernel.specs.Changes.{mentions}
-use Rattle.equiv_subst.specs.Clauses.{has_empty, vars, gone, count, Holds}
+use Rattle.equiv_subst.specs.Clauses.{has_empty, vars, gone, Holds}
 use Rattle.pass_terms.specs.Ruled.{IsKnown, Uses, Ruled}
 use Rattle.pass_terms.specs.Ruled.Uses.{implied}
 use Rattle.pass_terms.specs.Ruled.Ruled.{none, more}
@@ -27,7 +27,7 @@ use Rattle.equiv_subst.specs.declared.pairs.Pair.{Pair}
 use Rattle.equiv_subst.specs.Implications.{Leads, Joined, Arc, arcs, size, IsGraphOf, Implication, Says, NoEquivalents, AllFrozen}
 use Rattle.equiv_subst.specs.Walk.{pair, no_pair, AreJoined, AreFit, IsFit, Found, Halted}
 use Rattle.equiv_subst.specs.Replacing.{all_but, Replaced}
-use Rattle.equiv_subst.specs.Pass.{IsFixpoint, IsEquivalent, AreEquivalent, Equivalences, Tried, Covers, Advanced, Exhausted, WentOn, CameFull, Stops}
+use Rattle.equiv_subst.specs.Pass.{IsFixpoint, IsEquivalent, AreEquivalent, Equivalences, Tried, Covers, Advanced, Exhausted, WentOn, CameFull, ReachesLimit}
 use Rattle.equiv_subst.specs.Pass.Tried.{left, done}
 use Rattle.equiv_subst.proofs.Leading.{leads_map}
 use Rattle.equiv_subst.proofs.Finding.{arc_into}
@@ -157,7 +157,7 @@ advancing_more frozen s t u i a b c limit x y free start h ruled (done there r) 
 pub advanced : (frozen : ℕ → Bool) (s t : State) (i a b limit : ℕ) → 0 < i → Advancing frozen s t i a b limit → Advanced s.store t.store a b limit
 advanced frozen s t i a b limit lt h = record { few = h.few; fell = h.fell lt; spent = h.spent; rest = h.rest }
 
-pub exhausted : (frozen : ℕ → Bool) (s t u : State) (i a b c limit x : ℕ) → Advancing frozen s t i a b limit → Ruled (all_but (var_of x)) t u → Halted b c (count is_firm t.store) limit → Exhausted s.store u.store a c limit
+pub exhausted : (frozen : ℕ → Bool) (s t u : State) (i a b c limit x : ℕ) → Advancing frozen s t i a b limit → Ruled (all_but (var_of x)) t u → Halted b c (count_by is_firm t.store) limit → Exhausted s.store u.store a c limit
 exhausted frozen s t u i a b c limit x h ruled k = record {
   full = k.full;
   spent = λ vs m covers l.
@@ -269,8 +269,8 @@ some_clause : (b m g : ℕ) → b < 3 * (m * (g + 1)) → 0 < m
 some_clause b zero g h = absurd (omega arith)
 some_clause b (suc m) g h = omega arith
 
-stops : (s t : List (Option Stored)) (limit b : ℕ) → b ≡ limit → b < 3 * (length (firm s) * (gone (vars (firm s)) (firm t) + 1)) → Stops s t limit b
-stops s t limit b full h =
+reaches_limit : (s t : List (Option Stored)) (limit b : ℕ) → b ≡ limit → b < 3 * (length (firm s) * (gone (vars (firm s)) (firm t) + 1)) → ReachesLimit s t limit b
+reaches_limit s t limit b full h =
     let m : ℕ = length (firm s) in
     let g : ℕ = gone (vars (firm s)) (firm t) in
     let n : ℕ = length (vars (firm s)) in
@@ -286,11 +286,11 @@ stops s t limit b full h =
       below = omega (arith, h, e, mul, full);
     }
 
-pub passing_full : (frozen : ℕ → Bool) (s t u : State) (b c limit : ℕ) → Passing frozen s t b limit → CameFull t.store u.store b c limit → Stops s.store u.store limit c
+pub passing_full : (frozen : ℕ → Bool) (s t u : State) (b c limit : ℕ) → Passing frozen s t b limit → CameFull t.store u.store b c limit → ReachesLimit s.store u.store limit c
 passing_full frozen s t u b c limit h k =
     let sp = h.spent in
     let sp' = k.spent (vars (firm s.store)) (length (firm s.store)) (covers_now frozen s t h.ruled) h.few in
-    stops s.store u.store limit c k.full (omega arith)
+    reaches_limit s.store u.store limit c k.full (omega arith)
 
 -- reading the store
 pub refuted_at : (s : List (Option Stored)) (id : ℕ) (lits : List ℕ) → is_firm (slot s id) ≡ true → lits ≡ slot_lits (slot s id) → length lits ≡ 0 → has_empty (firm s) ≡ true

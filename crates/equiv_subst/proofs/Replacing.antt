@@ -1,5 +1,5 @@
 -- Laws of clauses in which a literal is replaced.
-use Rattle.std.proofs.Common.{◌≡◌, ◌≢◌, ℕ, suc, zero, ◌+◌, ◌-◌, ◌<◌, ◌≤◌, Bool, true, false, cond, not, eqb, ◌&&◌, ◌||◌, List, [], ◌∷◌, ◌++◌, length, get_or, map, Option, Some, None, Result, Ok, Err, IfOk, OnOk, OnErr, inl, inr, ◌⊎◌, refl, sym, ap, ◌∙◌, subst, arith, is_lt, nat_cmp}
+use Rattle.std.proofs.Common.{◌≡◌, ◌≢◌, ℕ, suc, zero, ◌+◌, ◌-◌, ◌<◌, ◌≤◌, Bool, true, false, cond, not, eqb, ◌&&◌, ◌||◌, List, [], ◌∷◌, ◌++◌, length, get_or, map, Option, Some, None, Result, Ok, Err, IfOk, OnOk, OnErr, inl, inr, ◌⊎◌, refl, sym, ap, ◌∙◌, subst, arith, is_lt, nat_cmp, count_by}
 use Rattle.std.proofs.lemmas.Bool.Decides.{nat_tests}
 use Rattle.std.proofs.lemmas.Bool.{false≢true, cases_Bool, cases_eq, cases_lt, false_from_ne_true, or_cases, or_left, or_right, or_parts, or_from, and_parts, and_from, eqb-true, eq-eqb, ne_eqb}
 use Rattle.sat_terms.specs.Literal.{has, neg, var_of, pos_lit, neg_lit}
@@ -19,7 +19,7 @@ use Rattle.rule_kernel.specs.State.{State}
 use Rattle.rule_kernel.specs.Rules.{firm_clause, AddsImplied, DropsImplied, Parks}
 use Rattle.pass_terms.specs.Firm.{firm, stands}
 use Rattle.rule_kernel.specs.Changes.{mentions}
-use Rattle.equiv_subst.specs.Clauses.{count, one_if, Holds}
+use Rattle.equiv_subst.specs.Clauses.{Holds}
 use Rattle.pass_terms.specs.Ruled.{IsKnown, Uses, Ruled}
 use Rattle.pass_terms.specs.Ruled.Uses.{implied, dropped, parked}
 use Rattle.pass_terms.specs.Ruled.Ruled.{none, more}
@@ -486,7 +486,7 @@ ready s u t x y n m forth back a b c limit en em ne h k =
     let two = count_two (about (var_of x)) t forth back refl (ties_apart t x y forth back ne tied.forth tied.back) (says_about t forth x y tied.forth).0 (says_about t back y x tied.back).1 in
     let v = var_of-neg x in
     let s1 = h.renamed.spent in
-    let s2 : c + count (about (var_of x)) t ≡ b + count (about (var_of x)) u = subst (λ (z : ℕ). c + count (about z) t ≡ b + count (about z) u) v k'.renamed.spent in
+    let s2 : c + count_by (about (var_of x)) t ≡ b + count_by (about (var_of x)) u = subst (λ (z : ℕ). c + count_by (about z) t ≡ b + count_by (about z) u) v k'.renamed.spent in
     let f1 = h.renamed.few in
     let f2 = k'.renamed.few in
     record {
@@ -505,8 +505,8 @@ pub ran_out_later : (s u t : List (Option Stored)) (x y n m forth back a b c lim
 ran_out_later s u t x y n m forth back a b c limit en h k =
     let v : var_of n ≡ var_of x = ap var_of en ∙ var_of-neg x in
     let s1 = h.renamed.spent in
-    let s2 : c + count (about (var_of x)) t ≡ b + count (about (var_of x)) u = subst (λ (z : ℕ). c + count (about z) t ≡ b + count (about z) u) v k.renamed.spent in
-    let l : 3 ≤ count (about (var_of x)) t = subst (λ (z : ℕ). 3 ≤ count (about z) t) v k.left in
+    let s2 : c + count_by (about (var_of x)) t ≡ b + count_by (about (var_of x)) u = subst (λ (z : ℕ). c + count_by (about z) t ≡ b + count_by (about z) u) v k.renamed.spent in
+    let l : 3 ≤ count_by (about (var_of x)) t = subst (λ (z : ℕ). 3 ≤ count_by (about z) t) v k.left in
     record { spent = omega arith; full = k.full }
 
 -- parking the two ties
@@ -568,7 +568,7 @@ replaced s t u w x y forth back a b limit h k p =
     let sp = k.spent in
     record { gone = p.gone; few = omega arith; spent = omega arith; rest = k.rest }
 
-pub halted_in : (s t : List (Option Stored)) (x y forth back a b limit : ℕ) → TiedBy s t x y forth back → RanOut t (var_of x) a b limit → Halted a b (count is_firm s) limit
+pub halted_in : (s t : List (Option Stored)) (x y forth back a b limit : ℕ) → TiedBy s t x y forth back → RanOut t (var_of x) a b limit → Halted a b (count_by is_firm s) limit
 halted_in s t x y forth back a b limit h k =
     let le = count_le (about (var_of x)) is_firm t (λ z e. (and_parts (is_firm z) (mentions (slot_lits z) (var_of x)) e).0) in
     let f0 = h.few in

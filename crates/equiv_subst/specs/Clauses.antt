@@ -1,6 +1,6 @@
--- Firm clauses: which hold a literal, how many there are, and which variables stand in none.
+-- Firm clauses: which hold a literal, and which variables stand in none.
 use Rattle.std.specs.List.{list_any}
-use Rattle.std.specs.Prelude.{◌≡◌, ℕ, ◌+◌, ◌==◌, Bool, true, not, List, [], ◌∷◌, Option, length, count_by, if◌then◌else◌}
+use Rattle.std.specs.Prelude.{◌≡◌, ℕ, ◌==◌, Bool, true, not, List, [], ◌∷◌, Option, length, count_by, if◌then◌else◌}
 use Rattle.sat_terms.specs.Literal.{has, var_of}
 use Rattle.clause_store.specs.Stored.{Stored, slot, slot_lits, is_firm}
 use Rattle.pass_terms.specs.Firm.{stands}
@@ -9,14 +9,6 @@ use Rattle.pass_terms.specs.Firm.{stands}
 pub record Holds (s : List (Option Stored)) (id l : ℕ) : Type 0 where
   pub firm : is_firm (slot s id) ≡ true
   pub has : has (slot_lits (slot s id)) l ≡ true
-
--- how many slots of a store pass a test
-abbrev pub one_if : Bool → ℕ
-one_if b = if b then 1 else 0
-
-abbrev pub count : (Option Stored → Bool) → List (Option Stored) → ℕ
-count p [] = 0
-count p (x ∷ s) = one_if (p x) + count p s
 
 -- whether one of some clauses is empty
 abbrev pub has_empty : List (List ℕ) → Bool

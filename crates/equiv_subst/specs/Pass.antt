@@ -23,7 +23,7 @@ IsFixpoint frozen s = has_empty (firm s) ≡ false → NoEquivalents frozen s
 -- The pass stopped at its limit, after b steps. With M firm clauses and n variables in them at
 -- its start, at least b divided by 3 M of these variables stand in no firm clause now, and the
 -- limit is below 3 M (n + 1).
-pub record Stops (s t : List (Option Stored)) (limit b : ℕ) : Type 0 where
+pub record ReachesLimit (s t : List (Option Stored)) (limit b : ℕ) : Type 0 where
   pub full : b ≡ limit
   pub some : 0 < length (firm s)
   pub fell : b / (3 * length (firm s)) ≤ gone (vars (firm s)) (firm t)
@@ -32,7 +32,7 @@ pub record Stops (s t : List (Option Stored)) (limit b : ℕ) : Type 0 where
 -- how the pass ended
 abbrev pub Ends : (ℕ → Bool) → List (Option Stored) → List (Option Stored) → ℕ → Ended → Type 0
 Ends frozen s t limit Fixpoint = IsFixpoint frozen t
-Ends frozen s t limit (Limit b) = Stops s t limit b
+Ends frozen s t limit (Limit b) = ReachesLimit s t limit b
 
 -- two literals that imply one another, the first of which is to be replaced
 pub record IsEquivalent (frozen : ℕ → Bool) (s : List (Option Stored)) (p : Pair) : Type 0 where
@@ -45,7 +45,8 @@ pub record IsEquivalent (frozen : ℕ → Bool) (s : List (Option Stored)) (p : 
 
 -- where both variables stand in firm clauses, these imply that x implies y
 abbrev pub ImpliedWhereBothStand : List (Option Stored) → ℕ → ℕ → Type 0
-ImpliedWhereBothStand s x y = stands (firm s) (var_of x) ≡ true → stands (firm s) (var_of y) ≡ true
+ImpliedWhereBothStand s x y = stands (firm s) (var_of x) ≡ true
+    → stands (firm s) (var_of y) ≡ true
     → Implies (FirmTrue s) (neg x ∷ y ∷ [])
 
 -- one of some pairs has a literal and its negation, and none has

@@ -43,7 +43,8 @@ pub record IsWay (g : List (List ℕ)) (w : Way) : Type 0 where
   pub back : (l p : ℕ) → mark w.marks l ≡ Open p → (p < length w.path) × (at w.path p ≡ l)
   pub up : (i j : ℕ) → i ≤ j → j < length w.path → Leads (Arc g) (at w.path i) (at w.path j)
   pub down : (i j : ℕ) → i ≤ j → j < length w.path
-      → ((r : ℕ) → r < length w.roots → i < (root w.roots r).place → (root w.roots r).place ≤ j → ⊥)
+      → ((r : ℕ) → r < length w.roots → i < (root w.roots r).place → (root w.roots r).place ≤ j
+      → ⊥)
       → Leads (Arc g) (at w.path j) (at w.path i)
   pub waiting : (r k : ℕ) → r < length w.roots → (root w.roots r).work ≤ k → k < length w.work
       → Leads (Arc g) (at w.path (root w.roots r).place) (at w.work k)
@@ -53,7 +54,8 @@ pub record IsWay (g : List (List ℕ)) (w : Way) : Type 0 where
   pub closed : (l m n : ℕ) → mark w.marks l ≡ Done n → Arc g l m
       → (k : ℕ) × (mark w.marks m ≡ Done k) × (k ≤ n)
   pub order : (r q : ℕ) → r < q → q < length w.roots
-      → ((root w.roots r).place < (root w.roots q).place) × ((root w.roots r).work ≤ (root w.roots q).work)
+      → ((root w.roots r).place < (root w.roots q).place)
+      × ((root w.roots r).work ≤ (root w.roots q).work)
   pub inside : (r : ℕ) → r < length w.roots
       → ((root w.roots r).place < length w.path) × ((root w.roots r).work ≤ length w.work)
   pub first : 0 < length w.roots → ((root w.roots 0).place ≡ 0) × ((root w.roots 0).work ≡ 0)
@@ -102,7 +104,8 @@ AreJoined g ps = (k : ℕ) → k < length ps → Joined (Arc g) (pair ps k).lit 
 -- alone
 abbrev pub AreSettled : (ℕ → Bool) → List Mark → List Pair → Type 0
 AreSettled frozen marks ps = length ps ≡ 0
-    → (l m n : ℕ) → mark marks l ≡ Done n → mark marks m ≡ Done n → l ≢ m → frozen (var_of l) ≡ true
+    → (l m n : ℕ) → mark marks l ≡ Done n → mark marks m ≡ Done n → l ≢ m
+    → frozen (var_of l) ≡ true
 
 -- the two literals of a pair are different, and where their variables are, the first one's is not
 -- frozen
@@ -174,7 +177,8 @@ pub record Marks (old new : List Mark) (members : List ℕ) (n : ℕ) : Type 0 w
   pub others : (l : ℕ) → has members l ≡ false → mark new l ≡ mark old l
 
 -- the component from a place on was closed, and its pairs were added
-pub record Closes (frozen : ℕ → Bool) (old new : Way) (ps qs : List Pair) (place : ℕ) : Type 0 where
+pub record Closes (frozen : ℕ → Bool) (old new : Way) (ps qs : List Pair) (place : ℕ)
+    : Type 0 where
   pub marks : Numbers old.marks new.marks place old.count
   pub path : new.path ≡ take place old.path
   pub work : new.work ≡ old.work
@@ -201,7 +205,8 @@ StayMet old new = (l : ℕ) → mark new l ≡ Fresh → mark old l ≡ Fresh
 
 -- a turn that looked at a literal or closed a component, and one that needed a step that the
 -- limit does not leave
-pub record Turned (g : List (List ℕ)) (frozen : ℕ → Bool) (old new : Way) (qs : List Pair) (a b limit : ℕ) : Type 0 where
+pub record Turned (g : List (List ℕ)) (frozen : ℕ → Bool) (old new : Way) (qs : List Pair)
+    (a b limit : ℕ) : Type 0 where
   pub walks : Walks g frozen new qs
   pub met : StayMet old.marks new.marks
   pub spent : b + unseen g new ≡ a + unseen g old
@@ -213,7 +218,8 @@ pub record Halted (a b unseen_before limit : ℕ) : Type 0 where
   pub some : b < a + unseen_before
 
 -- a walk from a literal on
-pub record Exploring (g : List (List ℕ)) (frozen : ℕ → Bool) (old new : Way) (qs : List Pair) (m a b limit : ℕ) : Type 0 where
+pub record Exploring (g : List (List ℕ)) (frozen : ℕ → Bool) (old new : Way) (qs : List Pair)
+    (m a b limit : ℕ) : Type 0 where
   pub walks : Walks g frozen new qs
   pub met : StayMet old.marks new.marks
   pub own : mark new.marks m ≢ Fresh
@@ -226,7 +232,8 @@ Explored g frozen old new qs m a b limit =
     Exploring g frozen old new qs m a b limit × (length new.roots ≡ 0)
 
 -- what the walk through all literals finds
-pub record Found (g : List (List ℕ)) (frozen : ℕ → Bool) (ps : List Pair) (a b limit : ℕ) : Type 0 where
+pub record Found (g : List (List ℕ)) (frozen : ℕ → Bool) (ps : List Pair) (a b limit : ℕ)
+    : Type 0 where
   pub joined : AreJoined g ps
   pub fit : AreFit frozen ps
   pub settled : length ps ≡ 0 → AllFrozen frozen g

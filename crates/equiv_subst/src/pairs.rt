@@ -55,7 +55,8 @@ fn representative(frozen: &Frozen, members: &[Lit]) -> Lit
 fn pair_of(frozen: &Frozen, lit: Lit, to: Lit) -> Option<Pair>
     ensures some { IfSome result (λ p. IsPairFor (is_frozen frozen.now) p lit to) }
     ensures none { IfNone result (lit ≢ to
-        → (is_frozen frozen.now (var_of lit) ≡ true) × (is_frozen frozen.now (var_of to) ≡ true)) }
+        → (is_frozen frozen.now (var_of lit) ≡ true)
+        × (is_frozen frozen.now (var_of to) ≡ true)) }
 {
     if lit == to {
         return None;

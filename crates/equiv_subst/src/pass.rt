@@ -17,13 +17,14 @@
 //! With M firm clauses at the start, a walk is at most 2 M steps and a replacement at most M, and
 //! never are there more firm clauses than before. Each round but the last replaces a variable at
 //! least. So after each replaced variable at most 3 M steps pass to the next.
-ghost use Rattle.std.specs.Prelude.{◌≡◌, ◌≢◌, ◌≤◌, ◌<◌, ◌+◌, ◌*◌, ◌-◌, ℕ, [], ◌∷◌, length, true, false, IfOk, MatchBool};
+ghost use Rattle.std.specs.Prelude.{◌≡◌, ◌≢◌, ◌≤◌, ◌<◌, ◌+◌, ◌*◌, ◌-◌, ℕ, [], ◌∷◌, length, true, false, IfOk, MatchBool, count_by};
 ghost use Rattle.sat_terms.specs.Literal.{neg as opposite, var_of};
 ghost use Rattle.sat_terms.specs.Truth.{Implies};
 ghost use Rattle.clause_store.specs.Stored.{FirmTrue, is_firm};
 ghost use Rattle.rule_kernel.specs.Frozen.{is_frozen};
+ghost use Rattle.rule_kernel.specs.declared.report.Ended.TheVariants.{Fixpoint};
 ghost use Rattle.pass_terms.specs.Firm.{firm, stands};
-ghost use Rattle.equiv_subst.specs.Clauses.{has_empty, count, Holds};
+ghost use Rattle.equiv_subst.specs.Clauses.{has_empty, Holds};
 ghost use Rattle.pass_terms.specs.Ruled.{Ruled};
 ghost use Rattle.equiv_subst.specs.Walk.{pair, Halted};
 ghost use Rattle.equiv_subst.specs.Replacing.{all_but};
@@ -141,7 +142,7 @@ fn try_replace(
     ensures ruled { Ruled (all_but (var_of x)) kernel.old kernel.new }
     ensures done { IfOk result (λ on. MatchBool on
         (Tried kernel.old kernel.new x y steps.old steps.new limit)
-        (Halted steps.old steps.new (count is_firm kernel.old.store) limit)) }
+        (Halted steps.old steps.new (count_by is_firm kernel.old.store) limit)) }
 {
     if !is_there(kernel.store(), x) {
         return Ok(true);
@@ -233,6 +234,8 @@ pub fn run(
     ensures ended { IfOk result (λ report.
         Ends (is_frozen frozen.now) kernel.old.store kernel.new.store limit report.ended) }
     ensures refuted { has_empty (firm kernel.old.store) ≡ true → kernel.new ≡ kernel.old }
+    ensures refuted_ends { IfOk result (λ report.
+        has_empty (firm kernel.old.store) ≡ true → report.ended ≡ Fixpoint) }
 {
     let removals = kernel.removals();
     if is_refuted(kernel.store()) {

@@ -15,12 +15,12 @@
 //! parked, no firm clause mentions the variable any more. A model found later gets the value of
 //! `y` for `x` when the stack extends it: the newest entry acts first, and the older one mends
 //! what it broke.
-ghost use Rattle.std.specs.Prelude.{◌≡◌, ◌≢◌, ◌≤◌, ◌<◌, ℕ, [], ◌∷◌, length, true, IfOk, OnOk, IfSome, IfNone, MatchBool};
+ghost use Rattle.std.specs.Prelude.{◌≡◌, ◌≢◌, ◌≤◌, ◌<◌, ℕ, [], ◌∷◌, length, true, IfOk, OnOk, IfSome, IfNone, MatchBool, count_by};
 ghost use Rattle.sat_terms.specs.Literal.{has, neg as opposite, var_of};
 ghost use Rattle.sat_terms.specs.Truth.{Implies};
 ghost use Rattle.clause_store.specs.Stored.{FirmTrue, is_firm};
 ghost use Rattle.pass_terms.specs.Firm.{firm, stands};
-ghost use Rattle.equiv_subst.specs.Clauses.{count, Holds};
+ghost use Rattle.equiv_subst.specs.Clauses.{Holds};
 ghost use Rattle.pass_terms.specs.Ruled.{Ruled};
 ghost use Rattle.equiv_subst.specs.Implications.{Says};
 ghost use Rattle.equiv_subst.specs.Walk.{Halted};
@@ -266,7 +266,7 @@ pub(crate) fn replace(
     ensures ruled { Ruled (all_but (var_of x)) kernel.old kernel.new }
     ensures done { IfOk result (λ on. MatchBool on
         (Replaced kernel.old.store kernel.new.store (var_of x) steps.old steps.new limit)
-        (Halted steps.old steps.new (count is_firm kernel.old.store) limit)) }
+        (Halted steps.old steps.new (count_by is_firm kernel.old.store) limit)) }
 {
     let tie = tie_both(kernel, x, y)?;
     if !rename_both(alloc, kernel, x, y, tie, steps, limit)? {
