@@ -188,15 +188,25 @@ pub record Closes (frozen : ℕ → Bool) (old new : Way) (ps qs : List Pair) (p
   pub grown : length ps ≤ length qs
   pub settled : length qs ≡ 0 → AreFrozen frozen (drop place old.path)
 
+-- the same, with other roots, and of the work the first d alone
+abbrev pub left_with : Way → List Root → ℕ → Way
+left_with w roots d = record {
+  marks = w.marks;
+  path = w.path;
+  work = take d w.work;
+  roots = roots;
+  count = w.count;
+}
+
 -- what was done with a literal that waited last, after the first d that wait
 pub data Looks (g : List (List ℕ)) (old new : Way) (m d : ℕ) : Type 0 where
   fresh_one : mark old.marks m ≡ Fresh → new ≡ meeting g old m d → Looks g old new m d
   open_one : (q : ℕ) → mark old.marks m ≡ Open q
       → Merges old.roots new.roots q (length new.roots)
-      → new ≡ record { marks = old.marks; path = old.path; work = take d old.work; roots = new.roots; count = old.count }
+      → new ≡ left_with old new.roots d
       → Looks g old new m d
   done_one : (n : ℕ) → mark old.marks m ≡ Done n
-      → new ≡ record { marks = old.marks; path = old.path; work = take d old.work; roots = old.roots; count = old.count }
+      → new ≡ left_with old old.roots d
       → Looks g old new m d
 
 -- no literal that was met is fresh again

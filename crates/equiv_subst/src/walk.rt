@@ -70,7 +70,13 @@ impl Model for Walk {
 
     ghost Value = { Way };
 
-    ghost view = { λ w. record { marks = w.marks.items; path = w.path.items; work = w.work.items; roots = w.roots.items; count = w.count } };
+    ghost view = { λ w. record {
+      marks = w.marks.items;
+      path = w.path.items;
+      work = w.work.items;
+      roots = w.roots.items;
+      count = w.count;
+    } };
 }
 
 // Takes off the roots whose place is above another: their components become one with the one

@@ -89,7 +89,8 @@ pub record RunsOut (s t : State) (ids : List ℕ) (a b limit : ℕ) : Type 0 whe
 
 abbrev pub Tried : State → State → Watching → Trace → List ℕ → ℕ → ℕ → ℕ → Round → Type 0
 Tried s t w trail ids a b limit Unchanged = AllStay s t w trail ids a b limit
-Tried s t w trail ids a b limit (Changed place next) = OneShortens s t w trail ids place next a b limit
+Tried s t w trail ids a b limit (Changed place next) =
+    OneShortens s t w trail ids place next a b limit
 Tried s t w trail ids a b limit Stopped = RunsOut s t ids a b limit
 
 -- The pass stopped at its limit, after b steps. With L the sum of the lengths of the firm clauses

@@ -90,7 +90,8 @@ pub(crate) fn assume(
     ensures lists { watches.new.declared ≡ watches.old.declared }
     ensures longer { (l : ℕ) → true_on trail.old.steps l ≡ true
         → true_on trail.new.steps l ≡ true }
-    ensures looked { IfOk result (λ look. Looked store.now id (negs (kept.now ++ lit ∷ [])) lits.now trail.new.steps look) }
+    ensures looked { IfOk result (λ look.
+        Looked store.now id (negs (kept.now ++ lit ∷ [])) lits.now trail.new.steps look) }
 {
     // The contract alone speaks of these.
     let _ = id;
@@ -134,7 +135,8 @@ pub(crate) fn probe(
     ensures kept { watches.new.attached ≡ watches.old.attached }
     ensures declared { trail.new.declared ≡ trail.old.declared }
     ensures follows { Follows watches.new store.now trail.new }
-    ensures probed { IfOk result (λ found. IfSome found (λ new. Probed store.now id lits.now new.items)) }
+    ensures probed { IfOk result (λ found.
+        IfSome found (λ new. Probed store.now id lits.now new.items)) }
 {
     let mut kept = Vec::new(alloc);
     for lit in lits {

@@ -61,7 +61,8 @@ fn try_one(
     requires firm { is_firm (slot kernel.old.store id) ≡ true }
     requires rest { steps.old ≤ limit }
     ensures ruled { Ruled always kernel.old kernel.new }
-    ensures turned { IfOk result (λ turn. Turned kernel.old kernel.new watches.new trail.new id steps.old steps.new limit turn) }
+    ensures turned { IfOk result (λ turn.
+        Turned kernel.old kernel.new watches.new trail.new id steps.old steps.new limit turn) }
 {
     let lits = Lits::from_slice(alloc, kernel.store().get(id))?;
     // Propagation goes over the other clauses alone.
@@ -111,7 +112,8 @@ fn try_some(
     requires rest { steps.old ≤ limit }
     ensures ruled { Ruled always kernel.old kernel.new }
     ensures tried { IfOk result (λ round.
-        Tried kernel.old kernel.new watches.new trail.new ids.now steps.old steps.new limit round) }
+        Tried kernel.old kernel.new watches.new trail.new ids.now steps.old steps.new limit
+        round) }
 {
     for place in 0..ids.len() {
         let id = ids[place];
@@ -142,7 +144,8 @@ fn try_round(
     requires rest { steps.old ≤ limit }
     ensures ruled { Ruled always kernel.old kernel.new }
     ensures tried { IfOk result (λ round.
-        Tried kernel.old kernel.new watches.new trail.new ids.now steps.old steps.new limit round) }
+        Tried kernel.old kernel.new watches.new trail.new ids.now steps.old steps.new limit
+        round) }
 {
     match try_some(alloc, kernel, watches, trail, &ids[start..], steps, limit)? {
         Round::Unchanged => try_some(alloc, kernel, watches, trail, &ids[..start], steps, limit),
