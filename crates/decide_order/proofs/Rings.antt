@@ -280,7 +280,7 @@ queue_append ps ns ss count room last cursor newest q more few read =
       nexts_room = omega arith;
       stamps_room = omega arith;
       within = λ _. more;
-      few = few;
+      few = omega arith;
       low = omega arith;
       known = omega arith;
     }

@@ -152,7 +152,7 @@ table_wider p t fits few =
           (let e : count_by (λ y. eqb y 0) (p ++ 0 ∷ []) ≡ count_by (λ y. eqb y 0) p + 1 = sum_by_push empty_weight p 0 in
           let f = fits.filled in
           rw (long, e) (omega arith));
-      few = rw long few;
+      few = rw long (omega arith);
     }
 
 -- the table with some variables more
