@@ -71,19 +71,21 @@ slot_within p (x ∷ s) (suc k) h a = let r = slot_within p s k h a in omega ari
 abbrev pub one_if : Bool → ℕ
 one_if b = cond b 1 0
 
+count-cons : (p : Option Stored → Bool) (x : Option Stored) (s : List (Option Stored)) → count_by p (x ∷ s) ≡ one_if (p x) + count_by p s
+count-cons p x s = sum_by-cons (λ z. cond (p z) 1 0) x s
+
 pub count_tally : (p : Option Stored → Bool) (s : List (Option Stored)) (n : ℕ) → p None ≡ false → length s ≤ n → count_by p s ≡ tally (λ k. one_if (p (slot s k))) n
 count_tally p [] n h le = sym (tally_same (λ k. one_if (p None)) (λ _. 0) n (λ k lt. ap one_if h) ∙ tally_zero n)
 count_tally p (x ∷ s) zero h le = absurd (omega arith)
-count_tally p (x ∷ s) (suc n) h le =
-    let r = count_tally p s n h (omega arith) in ap (λ (z : ℕ). one_if (p x) + z) r
+count_tally p (x ∷ s) (suc n) h le = count-cons p x s ∙ ap (λ (z : ℕ). one_if (p x) + z) (count_tally p s n h (omega arith))
 
 pub count_firm : (s : List (Option Stored)) → count_by is_firm s ≡ length (firm s)
 count_firm [] = refl
-count_firm (None ∷ s) = sum_by-cons (λ (z : Option Stored). one_if (is_firm z)) None s ∙ count_firm s
-count_firm (Some c ∷ s) =
-    let e = sum_by-cons (λ (z : Option Stored). one_if (is_firm z)) (Some c) s in
-    let r = count_firm s in
-    elim (cases_Bool (keeps_firm c.keep)) [ inl a ↦ e ∙ rw a (omega (arith, r)) | inr a ↦ e ∙ rw a (omega (arith, r)) ]
+count_firm (None ∷ s) = let e = count-cons is_firm None s in let r = count_firm s in omega (arith, e, r)
+count_firm (Some c ∷ s) = count-cons is_firm (Some c) s ∙ go (keeps_firm c.keep) (count_firm s) where
+  go : (b : Bool) → count_by is_firm s ≡ length (firm s) → one_if b + count_by is_firm s ≡ length (cond b (c.lits ∷ firm s) (firm s))
+  go true r = omega (arith, r)
+  go false r = omega (arith, r)
 
 -- the ids of the firm clauses are as many as these
 pub listed : (test : ℕ → Bool) (ids : List ℕ) (k : ℕ) → HasEachOnce test ids → k < length ids → test (get_or ids k 0) ≡ true
@@ -149,8 +151,8 @@ pub count_le : (p q : Option Stored → Bool) (s : List (Option Stored)) → ((x
 count_le p q [] h = omega arith
 count_le p q (x ∷ s) h =
     let r = count_le p q s h in
-    let a = sum_by-cons (λ z. one_if (p z)) x s in
-    let b = sum_by-cons (λ z. one_if (q z)) x s in
+    let a = count-cons p x s in
+    let b = count-cons q x s in
     elim (cases_Bool (p x)) [
       | inl y ↦ (let c : one_if (p x) ≡ 1 = ap one_if y in let d : one_if (q x) ≡ 1 = ap one_if (h x y) in omega (arith, a, b, c, d, r))
       | inr m ↦ (let c : one_if (p x) ≡ 0 = ap one_if m in omega (arith, a, b, c, r))

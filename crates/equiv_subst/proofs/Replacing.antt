@@ -26,7 +26,7 @@ use Rattle.pass_terms.specs.Ruled.Ruled.{none, more}
 use Rattle.pass_terms.proofs.Standing.{stands_of, stands_from, mentions_lit, lit_of}
 use Rattle.pass_terms.proofs.Ruling.{ruled_trans, ruled_weaken}
 use Rattle.witness_stack.proofs.Rows.{apart_one}
-use Rattle.equiv_subst.proofs.Counting.{count_filled, count_freed, count_two, count_three, count_le}
+use Rattle.equiv_subst.proofs.Counting.{one_if, count_filled, count_freed, count_two, count_three, count_le}
 use Rattle.equiv_subst.specs.Implications.{IsPairOf, Says, Implication, Leads}
 use Rattle.equiv_subst.specs.Implications.Leads.{here, more as further}
 use Rattle.equiv_subst.specs.Replacing.{always, all_but, rename, renamed, AreTied, about, KeepsFirm, NoMoreHolds, Renames, Renamed, Ties, Cleared, Stopped, TiedBy, IsReady, RanOut, Parked, Replaced}

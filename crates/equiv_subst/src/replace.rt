@@ -63,11 +63,11 @@ fn rename(
     id: ClauseId,
     p: Lit,
     q: Lit,
-    tie: Tie,
+    tie: &Tie,
 ) -> Result<(), Memory>
-    requires tied { AreTied kernel.old.store p q tie.forth tie.back }
+    requires tied { AreTied kernel.old.store p q tie.now.forth tie.now.back }
     requires holds { Holds kernel.old.store id p }
-    requires other { tie.back ≢ id }
+    requires other { tie.now.back ≢ id }
     requires apart { var_of p ≢ var_of q }
     ensures ruled { Ruled always kernel.old kernel.new }
     ensures ok { OnOk result (Renames kernel.old.store kernel.new.store id (var_of p)) }
@@ -107,18 +107,18 @@ fn rename_all(
     kernel: &mut Kernel,
     p: Lit,
     q: Lit,
-    tie: Tie,
+    tie: &Tie,
     steps: &mut u64,
     limit: u64,
 ) -> Result<bool, Memory>
-    requires tied { AreTied kernel.old.store p q tie.forth tie.back }
+    requires tied { AreTied kernel.old.store p q tie.now.forth tie.now.back }
     requires apart { var_of p ≢ var_of q }
     requires rest { steps.old ≤ limit }
     ensures ruled { Ruled always kernel.old kernel.new }
     ensures done { IfOk result (λ on. MatchBool on
-        (Cleared kernel.old.store kernel.new.store p q tie.forth tie.back steps.old steps.new
+        (Cleared kernel.old.store kernel.new.store p q tie.now.forth tie.now.back steps.old steps.new
         limit)
-        (Stopped kernel.old.store kernel.new.store p q tie.forth tie.back steps.old steps.new
+        (Stopped kernel.old.store kernel.new.store p q tie.now.forth tie.now.back steps.old steps.new
         limit)) }
 {
     while let Some(id) = next_other(kernel.store(), p, tie.back) {
@@ -217,7 +217,7 @@ fn rename_both(
         limit)
         (RanOut kernel.old.store (var_of x) steps.old steps.new limit)) }
 {
-    if !rename_all(alloc, kernel, x, y, tie, steps, limit)? {
+    if !rename_all(alloc, kernel, x, y, &tie, steps, limit)? {
         return Ok(false);
     }
     // The clause that says that y implies x says too that -x implies -y.
@@ -225,7 +225,7 @@ fn rename_both(
         forth: tie.back,
         back: tie.forth,
     };
-    if !rename_all(alloc, kernel, x.neg(), y.neg(), turned, steps, limit)? {
+    if !rename_all(alloc, kernel, x.neg(), y.neg(), &turned, steps, limit)? {
         return Ok(false);
     }
     Ok(true)

@@ -21,7 +21,7 @@ try_replace-requires-clause-forth c = λ sx sy.
     still (is_frozen c.args.frozen.now) c.args.kernel.now c.loop-pair.kernel c.loop-pair.pair-index c.args.steps.now c.loop-pair.steps c.args.limit c.pair-item.result.lit c.pair-item.result.to c.loop-pair.invariant q.forth sx sy
 
 pub try_replace-requires-clause-back : goal.try_replace-requires-clause-back
-try_replace-requires-clause-back c = λ sx sy.
+try_replace-requires-clause-back c = λ sy sx.
     let within : c.loop-pair.pair-index < length c.args.pairs.now = omega arith in
     let q : IsEquivalent (is_frozen c.args.frozen.now) c.args.kernel.now.store c.pair-item.result = subst (λ (z : Pair). IsEquivalent (is_frozen c.args.frozen.now) c.args.kernel.now.store z) (sym (pair_read c.args.pairs.now c.loop-pair.pair-index c.pair-item.result within c.pair-item.is)) (c.requires.are c.loop-pair.pair-index within) in
     still (is_frozen c.args.frozen.now) c.args.kernel.now c.loop-pair.kernel c.loop-pair.pair-index c.args.steps.now c.loop-pair.steps c.args.limit c.pair-item.result.to c.pair-item.result.lit c.loop-pair.invariant q.back sy sx

@@ -16,7 +16,7 @@ pub add_implied-requires-clause-implied : goal.add_implied-requires-clause-impli
 add_implied-requires-clause-implied c =
     let is : c.get.result.now ≡ slot_lits (slot c.args.kernel.now.store c.args.id) = rw c.store.ensures at c.get.ensures.value in
     let of : IsFormOf c.as_slice-in-Some.result.now (renamed c.args.p c.args.q c.get.result.now) = rw c.as_slice-in-Some.ensures (rw (c.in-Some.is, c.as_slice.ensures.value, c.in_ok-lits.ensures) at c.in_ok-form.ensures.some) in
-    implies_renamed c.args.kernel.now.store c.args.id c.args.p c.args.q c.args.tie.forth c.args.tie.back c.get.result.now c.as_slice-in-Some.result.now c.requires.tied is c.requires.holds.firm of
+    implies_renamed c.args.kernel.now.store c.args.id c.args.p c.args.q c.args.tie.now.forth c.args.tie.now.back c.get.result.now c.as_slice-in-Some.result.now c.requires.tied is c.requires.holds.firm of
 
 pub returns-in_err-add_implied-in-Some-clause-ruled : goal.returns-in_err-add_implied-in-Some-clause-ruled
 returns-in_err-add_implied-in-Some-clause-ruled c = ruled_same _ _ _ c.in_err-add_implied-in-Some.ensures.err
@@ -25,7 +25,7 @@ pub drop_implied-requires-clause-implied : goal.drop_implied-requires-clause-imp
 drop_implied-requires-clause-implied c =
     let is : c.get.result.now ≡ slot_lits (slot c.args.kernel.now.store c.args.id) = rw c.store.ensures at c.get.ensures.value in
     let of : IsFormOf c.as_slice-in-Some.result.now (renamed c.args.p c.args.q c.get.result.now) = rw c.as_slice-in-Some.ensures (rw (c.in-Some.is, c.as_slice.ensures.value, c.in_ok-lits.ensures) at c.in_ok-form.ensures.some) in
-    drops_renamed c.args.kernel.now.store c.add_implied.new.self.store c.args.id c.in_ok-add_implied-in-Some.field-0 c.args.p c.args.q c.args.tie.forth c.args.tie.back c.get.result.now c.as_slice-in-Some.result.now
+    drops_renamed c.args.kernel.now.store c.add_implied.new.self.store c.args.id c.in_ok-add_implied-in-Some.field-0 c.args.p c.args.q c.args.tie.now.forth c.args.tie.now.back c.get.result.now c.as_slice-in-Some.result.now
     c.requires.tied is c.requires.holds.firm c.requires.other of c.in_ok-add_implied-in-Some.ensures.ok.store
 
 pub returns-in-Some-clause-ruled : goal.returns-in-Some-clause-ruled
@@ -33,7 +33,7 @@ returns-in-Some-clause-ruled c =
     let is : c.get.result.now ≡ slot_lits (slot c.args.kernel.now.store c.args.id) = rw c.store.ensures at c.get.ensures.value in
     let of : IsFormOf c.as_slice-in-Some.result.now (renamed c.args.p c.args.q c.get.result.now) = rw c.as_slice-in-Some.ensures (rw (c.in-Some.is, c.as_slice.ensures.value, c.in_ok-lits.ensures) at c.in_ok-form.ensures.some) in
     ruled_swap c.args.kernel.now c.add_implied.new.self c.drop_implied.new.self c.as_slice-in-Some.result.now c.in_ok-add_implied-in-Some.field-0 c.args.id
-    (knows_renamed c.args.kernel.now c.args.id c.args.p c.args.q c.args.tie.forth c.args.tie.back c.get.result.now c.as_slice-in-Some.result.now c.requires.tied is c.requires.holds.firm of)
+    (knows_renamed c.args.kernel.now c.args.id c.args.p c.args.q c.args.tie.now.forth c.args.tie.now.back c.get.result.now c.as_slice-in-Some.result.now c.requires.tied is c.requires.holds.firm of)
     c.in_ok-add_implied-in-Some.ensures.ok c.drop_implied.ensures
 
 pub returns-in-Some-clause-ok : goal.returns-in-Some-clause-ok
@@ -47,7 +47,7 @@ pub drop_implied-requires-in-None-clause-implied : goal.drop_implied-requires-in
 drop_implied-requires-in-None-clause-implied c =
     let is : c.get.result.now ≡ slot_lits (slot c.args.kernel.now.store c.args.id) = rw c.store.ensures at c.get.ensures.value in
     let taut : IsTautology (renamed c.args.p c.args.q c.get.result.now) = rw (c.in-None.is, c.as_slice.ensures.value, c.in_ok-lits.ensures) at c.in_ok-form.ensures.none in
-    drops_tautology c.args.kernel.now.store c.args.id c.args.p c.args.q c.args.tie.forth c.args.tie.back c.get.result.now c.requires.tied is c.requires.other taut
+    drops_tautology c.args.kernel.now.store c.args.id c.args.p c.args.q c.args.tie.now.forth c.args.tie.now.back c.get.result.now c.requires.tied is c.requires.other taut
 
 pub returns-clause-ruled : goal.returns-clause-ruled
 returns-clause-ruled c = ruled_dropped c.args.kernel.now c.drop_implied-in-None.new.self c.args.id c.drop_implied-in-None.ensures
