@@ -2,7 +2,7 @@
 use Rattle.std.proofs.Common.{◌≡◌, ◌≢◌, ℕ, suc, zero, ◌+◌, ◌-◌, ◌*◌, ◌/◌, ◌%◌, ◌<◌, ◌≤◌, Bool, true, false, cond, eqb, List, length, length-set, get_or, take, drop, set, Option, Some, None, Result, Ok, Err, IfOk, inl, inr, ◌⊎◌, refl, sym, ap, ◌∙◌, subst, arith}
 use Rattle.std.specs.List.{sum_by}
 use Rattle.std.proofs.lemmas.Bool.{false≢true, cases_Bool, cases_eq, cases_lt, eq-eqb, ne_eqb}
-use Rattle.std.proofs.lemmas.List.{get_or_default, get_or-drop, get_or-take, length-take-le, length-drop}
+use Rattle.std.proofs.lemmas.List.{get_or_default, get_or-drop, get_or-take, length-take-le, length-drop, take_all}
 use Rattle.std.proofs.lemmas.List.Sums.{sum_by-take-drop, sum_by-set, sum_by_more, sum_by_more_le, sum_by-take-le}
 use Rattle.std.proofs.Math.Nat.{mul-le-mul_left}
 use Rattle.clause_store.specs.Stored.{Stored, slot, slot_lits, is_firm}
@@ -107,6 +107,9 @@ trying_end s t w trail ids i a b limit past h =
     record { same = h.same; calm = λ k lt. h.calm k (omega arith); ready = h.ready; spent = omega (arith, sp, m); rest = h.rest }
 
 -- two parts of the ids, from a place on and before it
+pub rest_of : (ids : List ℕ) (start : ℕ) → take (length ids - start) (drop start ids) ≡ drop start ids
+rest_of ids start = let l = length-drop start ids in take_all (length ids - start) (drop start ids) (omega (arith, l))
+
 rest_at : (ids first : List ℕ) (start k : ℕ) → first ≡ drop start ids → get_or first k 0 ≡ get_or ids (start + k) 0
 rest_at ids first start k e = ap (λ (z : List ℕ). get_or z k 0) e ∙ get_or-drop start ids k 0
 

@@ -5,7 +5,7 @@ use Rattle.watch_lists.specs.Propagation.{Follows}
 use Rattle.pass_terms.specs.Ruled.Ruled.{none}
 use Rattle.vivify_pass.specs.Trailing.{Probed}
 use Rattle.vivify_pass.proofs.Forcing.{result_implied}
-use Rattle.vivify_pass.proofs.Turning.{declared_all, drops_longer, known_new, ruled_next, ruled_first, ruled_same, within_next, within_again, ready_same, ready_next, back_empty, attached_kept, shortens_next}
+use Rattle.vivify_pass.proofs.Turning.{declared_all, drops_longer, known_new, ruled_next, ruled_first, ruled_same, within_next, within_again, ready_same, ready_next, back_empty, attached_kept, shortens_next, came_new, no_more_id}
 use Rattle.vivify_pass.proofs.turn.try_one.Goals as goal
 
 pub returns-in_err-lits-clause-ruled : goal.returns-in_err-lits-clause-ruled
@@ -112,3 +112,14 @@ returns-clause-turned c =
       spent = spent;
       rest = c.probe.ensures.rest;
     }
+
+pub attach-requires-clause-fresh : goal.attach-requires-clause-fresh
+attach-requires-clause-fresh c =
+    let att : (k : ℕ) → has c.cut.new.self.attached k ≡ (has c.args.watches.now.attached k && not (eqb k c.args.id)) = rw (c.cut.ensures.attached, c.probe.ensures.kept) c.detach.ensures.attached in
+    came_new c.args.kernel.now.store c.add_implied.new.self.store c.args.watches.now c.cut.new.self c.args.trail.now c.args.id c.in_ok-next-in-Some.next c.in-Some.new.items c.requires.ready att
+    (rw c.as_slice-then-len-as_slice.ensures.value at c.in_ok-next-in-Some.ensures.ok).store
+
+pub attach-requires-else-len-as_slice-clause-fresh : goal.attach-requires-else-len-as_slice-clause-fresh
+attach-requires-else-len-as_slice-clause-fresh c =
+    let att : (k : ℕ) → has c.cut.new.self.attached k ≡ (has c.args.watches.now.attached k && not (eqb k c.args.id)) = rw (c.cut.ensures.attached, c.probe.ensures.kept) c.detach.ensures.attached in
+    no_more_id c.args.watches.now c.cut.new.self c.args.id att
