@@ -1,5 +1,5 @@
 -- A trail on which literals are assumed, over the firm clauses but one.
-use Rattle.std.specs.Prelude.{◌≡◌, ◌≢◌, ℕ, ◌<◌, ◌≤◌, Bool, true, false, List, [], ◌∷◌, ◌++◌, length, Option}
+use Rattle.std.specs.Prelude.{◌≡◌, ◌≢◌, ◌⊎◌, ◌+◌, ℕ, ◌<◌, ◌≤◌, Bool, true, false, List, [], ◌∷◌, ◌++◌, length, Option}
 use Rattle.sat_terms.specs.Literal.{has, neg, var_of}
 use Rattle.sat_terms.specs.Normal.{IsNormal}
 use Rattle.sat_terms.specs.Answer.{Within}
@@ -41,6 +41,11 @@ Looked s id given c t (True l) = (Fails s id given → ⊥) × (has c l ≡ true
 Looked s id given c t Open = (Fails s id given → ⊥)
     × ((l : ℕ) → has c l ≡ true → Forced s id given l → ⊥)
     × ((l : ℕ) → Forced s id given l → true_on t l ≡ true)
+
+-- The steps from a to b are as many as literals were assumed, which are all n of the new clause,
+-- or all but the last one, which was found true.
+abbrev pub IsCount : ℕ → ℕ → ℕ → Type 0
+IsCount a b n = (b ≡ a + n) ⊎ (b + 1 ≡ a + n)
 
 -- what came out of the rule: it is the rule's result, not longer than the clause, and as long
 -- only where the clause is calm

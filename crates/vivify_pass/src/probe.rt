@@ -21,7 +21,7 @@ ghost use Rattle.sat_terms.specs.Literal.{has, neg as opposite, var_of};
 ghost use Rattle.sat_terms.specs.Normal.{IsNormal};
 ghost use Rattle.trail_state.specs.Trail.{value_on, true_on};
 ghost use Rattle.vivify_pass.specs.Rule.{negs};
-ghost use Rattle.vivify_pass.specs.Trailing.{AllAbove, Probes, Looked, Probed};
+ghost use Rattle.vivify_pass.specs.Trailing.{AllAbove, Probes, Looked, Probed, IsCount};
 ghost use Rattle.watch_lists.specs.Propagation.{Follows};
 
 use clause_store::store::Store;
@@ -132,6 +132,8 @@ pub(crate) fn probe(
     ensures spent { steps.new ≤ steps.old + length lits.now }
     ensures full { IfOk result (λ found. IfNone found ((steps.new ≡ limit)
         × (steps.new < steps.old + length lits.now))) }
+    ensures counted { IfOk result (λ found.
+        IfSome found (λ new. IsCount steps.old steps.new (length new.items))) }
     ensures kept { watches.new.attached ≡ watches.old.attached }
     ensures declared { trail.new.declared ≡ trail.old.declared }
     ensures follows { Follows watches.new store.now trail.new }
