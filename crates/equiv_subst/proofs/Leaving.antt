@@ -1,0 +1,107 @@
+-- Laws of variables that no longer stand in firm clauses.
+use Rattle.std.proofs.Common.{◌≡◌, ◌≢◌, ℕ, suc, zero, ◌+◌, ◌<◌, ◌≤◌, Bool, true, false, cond, not, eqb, ◌||◌, List, [], ◌∷◌, length, get_or, Option, Some, None, ◌⊎◌, inl, inr, refl, sym, ap, ◌∙◌, subst, arith}
+use Rattle.std.specs.List.{list_any, count_by}
+use Rattle.std.proofs.lemmas.Bool.{cases_Bool, false≢true, or_cases, or_left, or_right, false_from_ne_true, not-true, eqb-true, eq-eqb}
+use Rattle.std.proofs.lemmas.List.Sums.{sum_by-cons, count_by-le-length}
+use Rattle.sat_terms.specs.Literal.{has, var_of, pos_lit, neg_lit}
+use Rattle.clause_store.specs.Stored.{Stored, keeps_firm, slot, slot_lits, is_firm}
+use Rattle.pass_terms.specs.Firm.{firm, stands}
+use Rattle.rule_kernel.specs.Changes.{mentions}
+use Rattle.equiv_subst.specs.Clauses.{has_empty, with_var, with_vars, vars, gone}
+use Rattle.pass_terms.proofs.Standing.{lit_of}
+
+-- a firm clause that passes a test, by its id
+pub some_of : (p : List ℕ → Bool) (s : List (Option Stored)) → list_any p (firm s) ≡ true → (id : ℕ) × (is_firm (slot s id) ≡ true) × (p (slot_lits (slot s id)) ≡ true)
+some_of p [] h = absurd (false≢true h)
+some_of p (None ∷ s) h = let r = some_of p s h in (suc r.0, r.1, r.2)
+some_of p (Some c ∷ s) h =
+    elim (cases_Bool (keeps_firm c.keep)) [
+      | inl a ↦
+          elim (or_cases (p c.lits) (list_any p (firm s)) (rw a at h)) [
+            | inl b ↦ (0, a, b)
+            | inr b ↦ (let r = some_of p s b in (suc r.0, r.1, r.2))
+          ]
+      | inr a ↦ (let r = some_of p s (rw a at h) in (suc r.0, r.1, r.2))
+    ]
+
+pub some_from : (p : List ℕ → Bool) (s : List (Option Stored)) (id : ℕ) → is_firm (slot s id) ≡ true → p (slot_lits (slot s id)) ≡ true → list_any p (firm s) ≡ true
+some_from p [] id a b = absurd (false≢true a)
+some_from p (None ∷ s) zero a b = absurd (false≢true a)
+some_from p (None ∷ s) (suc id) a b = some_from p s id a b
+some_from p (Some c ∷ s) zero a b = rw a (or_left (p c.lits) (list_any p (firm s)) b)
+some_from p (Some c ∷ s) (suc id) a b =
+    let r = some_from p s id a b in
+    elim (cases_Bool (keeps_firm c.keep)) [ inl k ↦ rw k (or_right (p c.lits) (list_any p (firm s)) r) | inr k ↦ rw k r ]
+
+-- the variables of clauses
+has-with_var : (v u : ℕ) (vs : List ℕ) → (v ≡ u) ⊎ (has vs u ≡ true) → has (with_var v vs) u ≡ true
+has-with_var v u vs (inl e) =
+    elim (cases_Bool (has vs v)) [ inl a ↦ rw a (rw e at a) | inr a ↦ rw a (or_left (eqb v u) (has vs u) (eq-eqb v u e)) ]
+has-with_var v u vs (inr h) =
+    elim (cases_Bool (has vs v)) [ inl a ↦ rw a h | inr a ↦ rw a (or_right (eqb v u) (has vs u) h) ]
+
+has-with_vars_old : (c : List ℕ) (vs : List ℕ) (u : ℕ) → has vs u ≡ true → has (with_vars c vs) u ≡ true
+has-with_vars_old [] vs u h = h
+has-with_vars_old (l ∷ c) vs u h = has-with_var (var_of l) u (with_vars c vs) (inr (has-with_vars_old c vs u h))
+
+has-with_vars : (c : List ℕ) (vs : List ℕ) (l : ℕ) → has c l ≡ true → has (with_vars c vs) (var_of l) ≡ true
+has-with_vars [] vs l h = absurd (false≢true h)
+has-with_vars (x ∷ c) vs l h =
+    has-with_var (var_of x) (var_of l) (with_vars c vs)
+    (elim (or_cases (eqb x l) (has c l) h) [ inl a ↦ inl (ap var_of (eqb-true x l a)) | inr b ↦ inr (has-with_vars c vs l b) ])
+
+pub has-vars : (cs : List (List ℕ)) (v : ℕ) → stands cs v ≡ true → has (vars cs) v ≡ true
+has-vars [] v h = absurd (false≢true h)
+has-vars (c ∷ cs) v h =
+    elim (or_cases (mentions c v) (stands cs v) h) [
+      | inl a ↦ (let l = lit_of c v a in subst (λ (z : ℕ). has (with_vars c (vars cs)) z ≡ true) l.2 (has-with_vars c (vars cs) l.0 l.1))
+      | inr b ↦ has-with_vars_old c (vars cs) v (has-vars cs v b)
+    ]
+
+-- counts
+abbrev one : Bool → ℕ
+one b = cond b 1 0
+
+count-le : (p q : ℕ → Bool) (xs : List ℕ) → ((x : ℕ) → p x ≡ true → q x ≡ true) → count_by p xs ≤ count_by q xs
+count-le p q [] h = omega arith
+count-le p q (x ∷ xs) h =
+    let a = sum_by-cons (λ y. cond (p y) 1 0) x xs in
+    let b = sum_by-cons (λ y. cond (q y) 1 0) x xs in
+    let r = count-le p q xs h in
+    elim (cases_Bool (p x)) [
+      | inl i ↦ (let j = h x i in let c : one (p x) ≡ 1 = rw i refl in let d : one (q x) ≡ 1 = rw j refl in omega (arith, a, b, c, d, r))
+      | inr i ↦ (let c : one (p x) ≡ 0 = rw i refl in omega (arith, a, b, c, r))
+    ]
+
+count-less : (p q : ℕ → Bool) (xs : List ℕ) (v : ℕ) → ((x : ℕ) → p x ≡ true → q x ≡ true) → has xs v ≡ true → p v ≡ false → q v ≡ true → count_by p xs + 1 ≤ count_by q xs
+count-less p q [] v h in' n y = absurd (false≢true in')
+count-less p q (x ∷ xs) v h in' n y =
+    let a = sum_by-cons (λ z. cond (p z) 1 0) x xs in
+    let b = sum_by-cons (λ z. cond (q z) 1 0) x xs in
+    elim (or_cases (eqb x v) (has xs v) in') [
+      | inl e ↦
+          (let c : one (p x) ≡ 0 = rw (eqb-true x v e, n) refl in
+          let d : one (q x) ≡ 1 = rw (eqb-true x v e, y) refl in
+          let r = count-le p q xs h in
+          omega (arith, a, b, c, d, r))
+      | inr e ↦
+          (let r = count-less p q xs v h e n y in
+          elim (cases_Bool (p x)) [
+            | inl i ↦ (let j = h x i in let c : one (p x) ≡ 1 = rw i refl in let d : one (q x) ≡ 1 = rw j refl in omega (arith, a, b, c, d, r))
+            | inr i ↦ (let c : one (p x) ≡ 0 = rw i refl in omega (arith, a, b, c, r))
+          ])
+    ]
+
+not_map : (a b : Bool) → (a ≡ false → b ≡ false) → not a ≡ true → not b ≡ true
+not_map true b h x = absurd (false≢true x)
+not_map false b h x = ap not (h refl)
+
+-- what is gone stays gone, and one more may go
+pub gone_le : (vs : List ℕ) (cs ds : List (List ℕ)) → ((v : ℕ) → stands cs v ≡ false → stands ds v ≡ false) → gone vs cs ≤ gone vs ds
+gone_le vs cs ds h = count-le (λ v. not (stands cs v)) (λ v. not (stands ds v)) vs (λ v. not_map (stands cs v) (stands ds v) (h v))
+
+pub gone_less : (vs : List ℕ) (cs ds : List (List ℕ)) (v : ℕ) → ((u : ℕ) → stands cs u ≡ false → stands ds u ≡ false) → has vs v ≡ true → stands cs v ≡ true → stands ds v ≡ false → gone vs cs + 1 ≤ gone vs ds
+gone_less vs cs ds v h in' y n = count-less (λ u. not (stands cs u)) (λ u. not (stands ds u)) vs v (λ u. not_map (stands cs u) (stands ds u) (h u)) in' (ap not y) (ap not n)
+
+pub gone_most : (vs : List ℕ) (cs : List (List ℕ)) → gone vs cs ≤ length vs
+gone_most vs cs = count_by-le-length (λ v. not (stands cs v)) vs

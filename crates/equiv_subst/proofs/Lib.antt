@@ -1,0 +1,12 @@
+pub mod Backward
+pub mod Counting
+pub mod Finding
+pub mod Graphs
+pub mod Leading
+pub mod Leaving
+pub mod Occurring
+pub mod Pairing
+pub mod Passing
+pub mod Replacing
+pub mod Turning
+pub mod Walking

@@ -1,0 +1,5 @@
+pub mod Clauses
+pub mod Implications
+pub mod Walk
+pub mod Replacing
+pub mod Pass

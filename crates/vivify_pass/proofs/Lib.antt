@@ -1,0 +1,9 @@
+pub mod Circling
+pub mod Counting
+pub mod Forcing
+pub mod Passing
+pub mod Probing
+pub mod Setting
+pub mod Summing
+pub mod Trailing
+pub mod Turning

@@ -1,0 +1,5 @@
+use Rattle.vivify_pass.proofs.Forcing.{calm_stays}
+use Rattle.vivify_pass.proofs.laws.law_calm_stays.Goals as goal
+
+pub returns : goal.returns
+returns c = calm_stays

@@ -1,0 +1,4 @@
+pub mod Clauses
+pub mod Rule
+pub mod Trailing
+pub mod Turning

@@ -1,0 +1,129 @@
+//! The pass: firm clauses are shortened by unit propagation over the other firm clauses.
+//!
+//! A clause with a literal that it does not need takes part in fewer conflicts and propagations
+//! than it could, for as long as it lives. Such a literal is found by assuming the others false:
+//! where the other clauses then have a conflict, or make one of the literals true or false, a
+//! shorter clause follows, and takes the place of the longer one. It comes as an implied clause,
+//! and then the old one is implied by it and goes. Nothing is parked, so no variable is touched
+//! that is frozen.
+//!
+//! With L the sum of the lengths of the firm clauses at the start, a round is at most L steps,
+//! and each but the last takes a literal away. So L (L + 1) steps are enough.
+ghost use Rattle.std.specs.Prelude.{◌≡◌, ◌≤◌, ◌<◌, ◌-◌, ℕ, List, [], true, false, Option, IfOk, OnOk};
+ghost use Rattle.sat_terms.specs.Limits.{max_var};
+ghost use Rattle.clause_store.specs.Stored.{Stored};
+ghost use Rattle.rule_kernel.specs.Frozen.{is_frozen};
+ghost use Rattle.rule_kernel.specs.declared.report.Ended.TheVariants.{Fixpoint};
+ghost use Rattle.pass_terms.specs.Firm.{firm};
+ghost use Rattle.vivify_pass.specs.Clauses.{has_empty};
+ghost use Rattle.pass_terms.specs.Ruled.{Ruled};
+ghost use Rattle.trail_state.specs.Trail.{Trace};
+ghost use Rattle.watch_lists.specs.Propagation.{Follows};
+ghost use Rattle.vivify_pass.specs.Trailing.{Ready};
+ghost use Rattle.vivify_pass.specs.Turning.{Ends};
+
+use crate::setup::{attach_all, last_var};
+use crate::turn::rounds;
+use clause_store::store::Store;
+use rule_kernel::frozen::Frozen;
+use rule_kernel::kernel::Kernel;
+use rule_kernel::report::{Ended, PassReport};
+use sat_model::literal::Var;
+use sat_model::memory::Memory;
+use std::alloc::Global;
+use trail_state::trail::Trail;
+use watch_lists::watches::Watches;
+
+// Whether an empty clause is firm.
+fn is_refuted(store: &Store) -> bool
+    ensures { result ≡ has_empty (firm store.now) }
+{
+    for id in store.firm_ids() {
+        let count = store.get(*id).len();
+        if count == 0 {
+            return true;
+        }
+    }
+    false
+}
+
+// Declares the variables up to a number.
+fn declare_to(last: u32, watches: &mut Watches, trail: &mut Trail) -> Result<(), Memory>
+    requires small { last ≤ max_var }
+    requires watches { watches.old.declared ≡ 0 }
+    requires trail { trail.old.declared ≡ 0 }
+    ensures attached { watches.new.attached ≡ watches.old.attached }
+    ensures steps { trail.new.steps ≡ trail.old.steps }
+    ensures watches { OnOk result (watches.new.declared ≡ last) }
+    ensures trail { OnOk result (trail.new.declared ≡ last) }
+    ensures follows { (s : List (Option Stored)) (t : Trace) → Follows watches.old s t
+        → Follows watches.new s t }
+{
+    match Var::new(last) {
+        None => Ok(()),
+        Some(var) => {
+            trail.declare(var)?;
+            watches.declare(var)?;
+            Ok(())
+        }
+    }
+}
+
+// Declares the variables of the firm clauses, and attaches these.
+fn set_up(store: &Store, watches: &mut Watches, trail: &mut Trail) -> Result<(), Memory>
+    requires attached { watches.old.attached ≡ [] }
+    requires watches { watches.old.declared ≡ 0 }
+    requires follows { (s : List (Option Stored)) (t : Trace) → Follows watches.old s t }
+    requires steps { trail.old.steps ≡ [] }
+    requires trail { trail.old.declared ≡ 0 }
+    ensures { OnOk result (Ready store.now watches.new trail.new) }
+{
+    let last = last_var(store);
+    declare_to(last, watches, trail)?;
+    attach_all(watches, store, store.firm_ids())?;
+    Ok(())
+}
+
+/// Shortens firm clauses by unit propagation over the other firm clauses, until a whole round
+/// shortens none (`Fixpoint`), or until as many steps were counted as `limit` and one more is
+/// needed (`Limit`). A step is a literal that is assumed. With L the sum of the lengths of the
+/// firm clauses at the start, a limit of L (L + 1) is always enough, and after `Limit(s)` this
+/// sum has fallen by at least s / L.
+///
+/// The kernel changes by its rules alone, as passes may use them (`Ruled`), whatever is answered:
+/// after `Memory` it is as the last rule left it. No clause is parked, whatever is frozen.
+/// `removed` is the rise of the kernel's count of removals. Where an empty clause is firm,
+/// nothing changes, and the answer is `Fixpoint`.
+pub fn run(
+    alloc: Global,
+    kernel: &mut Kernel,
+    frozen: &Frozen,
+    limit: u64,
+) -> Result<PassReport, Memory>
+    ensures ruled { Ruled (is_frozen frozen.now) kernel.old kernel.new }
+    ensures removed { IfOk result (λ report.
+        report.removed ≡ kernel.new.removals - kernel.old.removals) }
+    ensures ended { IfOk result (λ report. has_empty (firm kernel.old.store) ≡ false
+        → Ends kernel.old.store kernel.new.store limit report.ended) }
+    ensures refuted { has_empty (firm kernel.old.store) ≡ true → kernel.new ≡ kernel.old }
+    ensures refuted_ends { IfOk result (λ report.
+        has_empty (firm kernel.old.store) ≡ true → report.ended ≡ Fixpoint) }
+{
+    // Nothing is parked, so nothing need be asked of it.
+    let _ = frozen;
+    let removals = kernel.removals();
+    if is_refuted(kernel.store()) {
+        return Ok(PassReport {
+            removed: 0,
+            ended: Ended::Fixpoint,
+        });
+    }
+    let mut trail = Trail::new(alloc);
+    let mut watches = Watches::new(alloc);
+    set_up(kernel.store(), &mut watches, &mut trail)?;
+    let ended = rounds(alloc, kernel, &mut watches, &mut trail, limit)?;
+    Ok(PassReport {
+        removed: kernel.removals().saturating_sub(removals),
+        ended,
+    })
+}
