@@ -1,0 +1,6 @@
+pub mod Board
+pub mod Noticing
+pub mod Waiting
+pub mod Meaning
+pub mod Nothing
+pub mod Lawful
