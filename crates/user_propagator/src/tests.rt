@@ -20,7 +20,7 @@ enum Shown {
     Back(u32),
 }
 
-fn shown(request: Option<&Request>) -> Shown {
+fn kind_of(request: Option<&Request>) -> Shown {
     match request {
         None => Shown::Nothing,
         Some(Request::Observe(var)) => Shown::Observe(var.index()),
@@ -33,7 +33,7 @@ fn shown(request: Option<&Request>) -> Shown {
 
 // Takes the first request off, if there is one.
 fn take(desk: &mut Desk) -> Shown {
-    let taken = shown(desk.first_request());
+    let taken = kind_of(desk.first_request());
     if desk.first_request().is_some() {
         desk.drop_request();
     }
