@@ -1,7 +1,7 @@
 -- Laws of the table of places beside the seen trail.
 use Rattle.std.proofs.Common.{◌≡◌, ◌≢◌, ℕ, suc, zero, ◌+◌, ◌-◌, ◌<◌, ◌≤◌, Bool, true, false, ◌||◌, eqb, List, [], ◌∷◌, ◌++◌, length, get_or, take, set, Option, Some, None, inl, inr, refl, sym, ap, ◌∙◌, subst, arith}
-use Rattle.std.proofs.lemmas.Bool.{eqb-true, cases_eq, or_cases, or_left, false≢true}
-use Rattle.std.proofs.lemmas.List.{get_or_append_left, get_or_push, get_or-take, length-append, length-take-le, length-set}
+use Rattle.std.proofs.lemmas.Bool.{eqb-true, eqb-false, cases_eq, or_cases, or_left, false≢true}
+use Rattle.std.proofs.lemmas.List.{get_or_read, get_or_append_left, get_or_push, get_or-take, length-append, length-take-le, length-set}
 use Rattle.sat_terms.specs.Limits.{max_var}
 use Rattle.sat_terms.specs.Literal.{has}
 use Rattle.flag_set.specs.Listed.{lists}
@@ -60,6 +60,15 @@ module _ (observed : List ℕ) (seen : List Seen) (places : List ℕ) (most leve
         no true f = absurd (f refl)
         no false f = refl
 
+  -- both as the code reads them
+  pub place_yes : (v p u : ℕ) (x : Seen) (b : Bool) → p < length seen → x ≡ get_or seen p x → u ≡ seen_var x → b ≡ eqb u v → b ≡ true → trail_place seen v ≡ Some p
+  place_yes v p u x b in' read is test y =
+      place_here v p in' (ap seen_var (sym (get_or_read seen p x in' read no_entry)) ∙ sym is ∙ eqb-true u v (sym test ∙ y))
+
+  pub place_no : (v p u : ℕ) (x : Seen) (b : Bool) → p ≡ get_or places v 0 → p < length seen → x ≡ get_or seen p x → u ≡ seen_var x → b ≡ eqb u v → b ≡ false → trail_place seen v ≡ None
+  place_no v p u x b table in' read is test n =
+      place_nowhere v p table in' (λ e. eqb-false u v (sym test ∙ n) (is ∙ ap seen_var (get_or_read seen p x in' read no_entry) ∙ e))
+
   -- more room
   pub noticed_room : (places' : List ℕ) (most' : ℕ) → IsPlaced seen_var seen places' most' → length places ≤ length places' → AreNoticed observed seen places' most' level
   noticed_room places' most' placed more = record {
@@ -83,19 +92,19 @@ module _ (observed : List ℕ) (seen : List Seen) (places : List ℕ) (most leve
   }
 
   -- one more literal
-  pub noticed_put : (e : Seen) (n len most' : ℕ) → e.level ≡ level → has observed (seen_var e) ≡ true → lists seen_var seen (seen_var e) ≡ false → n ≡ seen_var e → len ≡ length seen → most ≤ most' → AreNoticed observed (seen ++ e ∷ []) (set places n len) most' level
+  pub noticed_put : (e : Seen) (n len most' : ℕ) → e.level ≡ level → has observed (seen_var e) ≡ true → lists seen_var seen n ≡ false → n ≡ seen_var e → len ≡ length seen → most ≤ most' → AreNoticed observed (seen ++ e ∷ []) (set places n len) most' level
   noticed_put e n len most' at known out same size more =
       let long = longer seen e in
       let below : (k : ℕ) → k < length (seen ++ e ∷ []) → (entry (seen ++ e ∷ []) k).level ≤ level =
-          λ k a. elim (cases_eq k (length seen)) [
-            | inl q ↦ rw (entry_new seen e k q) (omega arith)
-            | inr d ↦ rw (entry_old seen e k (omega arith)) (h.below k (omega arith))
-          ] in
+      λ k a. elim (cases_eq k (length seen)) [
+        | inl q ↦ rw (entry_new seen e k q) (omega arith)
+        | inr d ↦ rw (entry_old seen e k (omega arith)) (h.below k (omega arith))
+      ] in
       record {
         placed = placed_push seen_var seen places most h.placed e n len most' same size (let w = h.wide (seen_var e) known in omega arith) out more;
         rises = record {
           each = λ i j le a. elim (cases_eq j (length seen)) [
-            | inl q ↦ rw (entry_new seen e j q, at) (below i (omega arith))
+            | inl q ↦ (let z = below i (omega arith) in rw (entry_new seen e j q) (omega arith))
             | inr d ↦ rw (entry_old seen e j (omega arith), entry_old seen e i (omega arith)) (h.rises.each i j le (omega arith))
           ];
         };
@@ -125,7 +134,7 @@ module _ (observed : List ℕ) (seen : List Seen) (places : List ℕ) (most leve
       let size : length (take n seen) ≡ n = length-take-le n seen front.within in
       let w = front.within in
       let there' : (k : ℕ) → k < n → number_at seen_var (take n seen) k ≡ number_at seen_var seen k =
-          λ k a. var_at (take n seen) k (omega arith) ∙ ap seen_var (entry_front seen n k a) ∙ sym (var_at seen k (omega arith)) in
+      λ k a. var_at (take n seen) k (omega arith) ∙ ap seen_var (entry_front seen n k a) ∙ sym (var_at seen k (omega arith)) in
       record {
         placed = record {
           known = λ k a. rw (there' k (omega arith)) (h.placed.known k (omega arith));

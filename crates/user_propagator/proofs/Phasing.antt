@@ -1,7 +1,7 @@
 -- Laws of saved phases.
-use Rattle.std.proofs.Common.{◌≡◌, ◌≢◌, ℕ, ◌+◌, ◌*◌, ◌/◌, ◌%◌, ◌<◌, ◌≤◌, ◌⊎◌, Bool, true, false, cond, eqb, List, length, get_or, set, Option, Some, None, inl, inr, refl, sym, ap, ◌∙◌, arith}
-use Rattle.std.proofs.lemmas.Bool.{eqb-true, eqb-false, eq-eqb, ne_eqb, cases_eq, cases_lt}
-use Rattle.std.proofs.lemmas.List.{get_or_past, get_or-set_same, get_or-set_other}
+use Rattle.std.proofs.Common.{◌≡◌, ◌≢◌, ℕ, ◌+◌, ◌*◌, ◌/◌, ◌%◌, ◌<◌, Bool, true, false, cond, eqb, List, length, get_or, set, Option, Some, None, inl, inr, refl, sym, ap, ◌∙◌, arith}
+use Rattle.std.proofs.lemmas.Bool.{eqb-true, eqb-false, eq-eqb, ne_eqb, cases_eq}
+use Rattle.std.proofs.lemmas.List.{get_or-set_same, get_or-set_other}
 use Rattle.sat_terms.specs.Literal.{var_of, pos_lit, neg_lit}
 use Rattle.user_propagator.specs.Board.{in_phase, phase_on}
 
@@ -17,14 +17,6 @@ negative_is l h = omega arith
 phase_is : (l : ℕ) (b : Bool) → b ≡ eqb (l % 2) 0 → in_phase (var_of l) (Some b) ≡ Some l
 phase_is l true h = ap Some (positive_is l (eqb-true (l % 2) 0 (sym h)))
 phase_is l false h = ap Some (negative_is l (eqb-false (l % 2) 0 (sym h)))
-
--- the table grows by places without a phase
-pub grown : (old new : List (Option Bool)) (n : ℕ) → length new ≡ n → length old ≤ n → ((k : ℕ) (d : Option Bool) → k < n → k < length old → get_or new k d ≡ get_or old k d) → ((k : ℕ) (d : Option Bool) → length old ≤ k → k < n → get_or new k d ≡ None) → (v : ℕ) → phase_on new v ≡ phase_on old v
-grown old new n size le same none v = ap (in_phase v) (go (cases_lt v (length old)) (cases_lt v n)) where
-  go : (v < length old) ⊎ (length old ≤ v) → (v < n) ⊎ (n ≤ v) → get_or new v None ≡ get_or old v None
-  go (inl a) q = same v None (omega arith) a
-  go (inr a) (inl b) = none v None a b ∙ sym (get_or_past old v None a)
-  go (inr a) (inr b) = get_or_past new v None (omega arith) ∙ sym (get_or_past old v None a)
 
 -- one phase is set
 pub phase_set : (phases : List (Option Bool)) (at l v : ℕ) (b : Bool) → at ≡ var_of l → b ≡ eqb (l % 2) 0 → at < length phases → phase_on (set phases at (Some b)) v ≡ cond (eqb v (var_of l)) (Some l) (phase_on phases v)

@@ -30,10 +30,10 @@ place_none (e ∷ es) v h =
 
 -- the first place where a variable stands
 pub place_some : (seen : List Seen) (p v : ℕ) → p < length seen → seen_var (entry seen p) ≡ v → ((j : ℕ) → j < p → seen_var (entry seen j) ≢ v) → trail_place seen v ≡ Some p
-place_some [] p v in' is no = absurd (omega arith)
-place_some (e ∷ es) zero v in' is no = rw (eq-eqb (seen_var e) v is) refl
-place_some (e ∷ es) (suc p) v in' is no =
-    rw (ne_eqb (seen_var e) v (no 0 (omega arith)), place_some es p v (omega arith) is (λ j lt. no (suc j) (omega arith))) refl
+place_some [] p v in' is earlier = absurd (omega arith)
+place_some (e ∷ es) zero v in' is earlier = rw (eq-eqb (seen_var e) v is) refl
+place_some (e ∷ es) (suc p) v in' is earlier =
+    rw (ne_eqb (seen_var e) v (earlier 0 (omega arith)), place_some es p v (omega arith) is (λ j lt. earlier (suc j) (omega arith))) refl
 
 -- the entry of a variable by its place
 pub entry_none : (seen : List Seen) (v : ℕ) → trail_place seen v ≡ None → trail_entry seen v ≡ None
@@ -85,6 +85,13 @@ value_is (e ∷ es) l =
                 rw (ne_eqb e.lit l n, ne_eqb e.lit (neg l) m, ne_eqb (var_of e.lit) (var_of l) other) (value_is es l)
           ]
     ]
+
+-- the value as the code reads it
+pub value_some : (seen : List Seen) (l v : ℕ) (e : Seen) (b : Bool) → v ≡ var_of l → trail_entry seen v ≡ Some e → b ≡ eqb e.lit l → Some b ≡ trail_value seen l
+value_some seen l v e b is found test = ap Some test ∙ ap (value_in l) (sym found ∙ ap (trail_entry seen) is) ∙ sym (value_is seen l)
+
+pub value_none : (seen : List Seen) (l v : ℕ) → v ≡ var_of l → trail_entry seen v ≡ None → None ≡ trail_value seen l
+value_none seen l v is found = ap (value_in l) (sym found ∙ ap (trail_entry seen) is) ∙ sym (value_is seen l)
 
 -- a literal with no value is of a variable that was not told
 pub unseen : (seen : List Seen) (l : ℕ) → trail_value seen l ≡ None → lists seen_var seen (var_of l) ≡ false

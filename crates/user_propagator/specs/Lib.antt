@@ -3,4 +3,3 @@ pub mod Noticing
 pub mod Waiting
 pub mod Meaning
 pub mod Nothing
-pub mod Lawful

@@ -2,7 +2,7 @@
 //!
 //! They are kept in a table by variable. Its memory is taken when a variable is observed, and the
 //! table grows into it when a phase is first set, so setting one cannot fail.
-ghost use Rattle.std.specs.Prelude.{◌≡◌, ◌<◌, ◌≤◌, ◌==◌, ℕ, Some, OnOk, if◌then◌else◌, vec_capacity};
+ghost use Rattle.std.specs.Prelude.{◌≡◌, ◌<◌, ◌≤◌, ◌==◌, ℕ, Some, OnOk, if◌then◌else◌, length, vec_capacity};
 ghost use Rattle.sat_terms.specs.Literal.{var_of};
 ghost use Rattle.user_propagator.specs.Board.{phase_on};
 

@@ -88,7 +88,12 @@ fn facts(desk: &Desk, number: i32) -> (Option<bool>, Option<u32>, Option<u32>, b
         None => (None, None, None, false),
         Some(lit) => {
             let var = lit.var();
-            (desk.value(lit), desk.level_of(var), desk.place_of(var), desk.is_decision(var))
+            (
+                desk.value(lit),
+                desk.level_of(var),
+                desk.place_of(var),
+                desk.is_decision(var),
+            )
         }
     }
 }
@@ -137,7 +142,10 @@ fn requests_are_taken_in_their_order(rt: HostRuntime) -> Result<(), Fail> {
     ask_back(&mut desk, 1);
     desk.observe(one.var())?;
     desk.drop_back();
-    assert_eq!(rt; [take(&mut desk), take(&mut desk)], [Shown::Observe(1), Shown::Nothing]);
+    assert_eq!(rt;
+        [take(&mut desk), take(&mut desk)],
+        [Shown::Observe(1), Shown::Nothing]
+    );
     Ok(())
 }
 
@@ -176,7 +184,12 @@ fn the_seen_trail_grows_and_is_cut(rt: HostRuntime) -> Result<(), Fail> {
     set_phase(&mut desk, 3);
     set_phase(&mut desk, -3);
     set_phase(&mut desk, 9);
-    let phases = [phase(&desk, 1), phase(&desk, 3), phase(&desk, 5), phase(&desk, 9)];
+    let phases = [
+        phase(&desk, 1),
+        phase(&desk, 3),
+        phase(&desk, 5),
+        phase(&desk, 9),
+    ];
     assert_eq!(rt; phases, [0, -3, -5, 0]);
     Ok(())
 }
