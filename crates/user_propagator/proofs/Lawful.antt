@@ -7,7 +7,7 @@ use Rattle.std.proofs.lemmas.List.Elements.{All-nil, All-cons}
 use Rattle.std.proofs.lemmas.List.{append-nil}
 use Rattle.sat_terms.specs.Literal.{has, var_of}
 use Rattle.sat_terms.specs.Truth.{Assignment, clause_true}
-use Rattle.user_propagator.specs.Board.{Board, Handed, trail_of, trail_value}
+use Rattle.user_propagator.specs.Board.{Board, Handed, with_handed, with_wanted}
 use Rattle.user_propagator.specs.Meaning.{Meaning, Counted, CalledBack, InStep, is_reached, IsFair, OnlyAsks, IsQuiet, IsFalseOrUnit, IsFalseSeen, KeepsScope, LevelFell, asked_now, handed_now, next_count}
 
 -- only the count changes
@@ -20,13 +20,6 @@ recounted old new h P p = subst P (sym h.same) p
 level_stays : (top : ℕ) (b : Option ℕ) → LevelFell top b b
 level_stays top None = tt
 level_stays top (Some n) = omega arith
-
--- a desk to which one clause was handed, and one where one variable was asked for
-abbrev pub with_handed : Board → Handed → Board
-with_handed b h = record b { handed = b.handed ++ h ∷ [] }
-
-abbrev pub with_wanted : Board → ℕ → Board
-with_wanted b v = record b { wanted = b.wanted ++ v ∷ [] }
 
 -- nothing was done
 pub called_idle : (old new : Meaning) (b : Board) → IsRecounted old new → InStep old b → CalledBack old new b b
@@ -42,24 +35,26 @@ called_idle old new b h step = recounted old new h (λ t. CalledBack old t b b) 
 }
 
 -- one clause was handed
-pub called_handing : (old new : Meaning) (b : Board) (h : Handed) → IsRecounted old new → InStep old b →
-    ((l : ℕ) → has h.clause l ≡ true → has b.observed (var_of l) ≡ true) →
-    ((f : Assignment) → old.admits f ≡ true → clause_true f h.clause ≡ true) →
-    IsFalseOrUnit b.seen h.clause →
-    CalledBack old new b (with_handed b h)
-called_handing old new b h same step observed implied falsified = recounted old new same (λ t. CalledBack old t b (with_handed b h)) record {
-  counted = record { kinds = refl; steady = refl; accepted = refl; asked = refl };
-  in_step = step;
-  fewer = λ f p. p;
-  explained = λ k l p. p;
-  desk = record { observed = refl; seen = refl; level = refl; wanted = rw (drop-length b.wanted) (sym (append-nil b.wanted)); handed = rw (drop-append_seam b.handed (h ∷ [])) refl; back = level_stays b.level b.back };
-  fair = rw (drop-append_seam b.handed (h ∷ [])) (
-      let P : Handed → Type 0 = IsFair (record old { asked = next_count old.asked }) b (with_handed b h) in
-      let fair : P h = record { reached = λ l p. or_left (has b.observed (var_of l)) (has (asked_now b (with_handed b h)) (var_of l)) (observed l p); implied = implied } in
-      All-cons P h [] fair (All-nil P));
-  scope = λ v p. or_left (has old.scope v) (is_reached b (with_handed b h) v) p;
-  quiet = λ s. record { admits = refl; scope = refl; wanted = refl; back = refl; handed = rw (drop-append_seam b.handed (h ∷ [])) (let P : Handed → Type 0 = λ x. IsFalseOrUnit b.seen x.clause in All-cons P h [] falsified (All-nil P)) };
-}
+pub called_handing : (old new : Meaning) (b : Board) (c : List ℕ) (forgettable : Bool) → IsRecounted old new → InStep old b →
+    ((l : ℕ) → has c l ≡ true → has b.observed (var_of l) ≡ true) →
+    ((f : Assignment) → old.admits f ≡ true → clause_true f c ≡ true) →
+    IsFalseOrUnit b.seen c →
+    CalledBack old new b (with_handed b c forgettable)
+called_handing old new b c forgettable same step observed implied falsified =
+    let h : Handed = record { clause = c; forgettable = forgettable } in
+    recounted old new same (λ t. CalledBack old t b (with_handed b c forgettable)) record {
+      counted = record { kinds = refl; steady = refl; accepted = refl; asked = refl };
+      in_step = step;
+      fewer = λ f p. p;
+      explained = λ k l p. p;
+      desk = record { observed = refl; seen = refl; level = refl; wanted = rw (drop-length b.wanted) (sym (append-nil b.wanted)); handed = rw (drop-append_seam b.handed (h ∷ [])) refl; back = level_stays b.level b.back };
+      fair = rw (drop-append_seam b.handed (h ∷ [])) (
+          let P : Handed → Type 0 = IsFair (record old { asked = next_count old.asked }) b (with_handed b c forgettable) in
+          let fair : P h = record { reached = λ l p. or_left (has b.observed (var_of l)) (has (asked_now b (with_handed b c forgettable)) (var_of l)) (observed l p); implied = implied } in
+          All-cons P h [] fair (All-nil P));
+      scope = λ v p. or_left (has old.scope v) (is_reached b (with_handed b c forgettable) v) p;
+      quiet = λ s. record { admits = refl; scope = refl; wanted = refl; back = refl; handed = rw (drop-append_seam b.handed (h ∷ [])) (let P : Handed → Type 0 = λ x. IsFalseOrUnit b.seen x.clause in All-cons P h [] falsified (All-nil P)) };
+    }
 
 -- one variable was asked for, by a propagator that is not steady
 pub called_asking : (old new : Meaning) (b : Board) (v : ℕ) → IsRecounted old new → InStep old b → old.steady ≡ false → CalledBack old new b (with_wanted b v)

@@ -1,5 +1,7 @@
 -- What contracts see of a desk: the observed variables, the seen trail, and what was left there.
-use Rattle.std.specs.Prelude.{ℕ, suc, ◌≡◌, ◌≤◌, ◌<◌, ◌==◌, ◌++◌, Bool, true, false, List, [], ◌∷◌, length, find, filter, nat_le, min, slice_index_or, Option, Some, None, option_map, if◌then◌else◌}
+use Rattle.std.specs.Prelude.{ℕ, suc, ◌≡◌, ◌≤◌, ◌<◌, ◌==◌, ◌++◌, Bool, true, false, nat_le, min}
+use Rattle.std.specs.Prelude.{List, [], ◌∷◌, length, find, filter, slice_index_or}
+use Rattle.std.specs.Prelude.{Option, Some, None, option_map, if◌then◌else◌}
 use Rattle.sat_terms.specs.Limits.{max_var}
 use Rattle.sat_terms.specs.Literal.{has, neg, var_of, pos_lit, neg_lit}
 use Rattle.user_propagator.specs.declared.seen.Seen.{Seen}
@@ -34,7 +36,15 @@ abbrev pub empty_trail : SeenTrail
 empty_trail = record { seen = []; level = 0 }
 
 abbrev pub empty_board : Board
-empty_board = record { observed = []; seen = []; level = 0; wanted = []; handed = []; back = None; phases = [] }
+empty_board = record {
+  observed = [];
+  seen = [];
+  level = 0;
+  wanted = [];
+  handed = [];
+  back = None;
+  phases = [];
+}
 
 -- what is kept of the notices: the observed variables, and the seen trail with its level
 pub record Noticed : Type 0 where
@@ -58,7 +68,8 @@ seen_var e = var_of e.lit
 -- truth of a literal on the seen trail, if its variable is there
 abbrev pub trail_value : List Seen → ℕ → Option Bool
 trail_value [] l = None
-trail_value (e ∷ es) l = if e.lit == l then Some true else (if e.lit == neg l then Some false else trail_value es l)
+trail_value (e ∷ es) l =
+    if e.lit == l then Some true else (if e.lit == neg l then Some false else trail_value es l)
 
 -- the entry of a variable, its place, its level, and whether it was decided
 abbrev pub trail_entry : List Seen → ℕ → Option Seen
@@ -77,6 +88,14 @@ is_decided (Some e) = e.decision
 
 abbrev pub trail_decision : List Seen → ℕ → Bool
 trail_decision seen v = is_decided (trail_entry seen v)
+
+-- a desk where one clause more was handed, and where one variable more was asked for
+abbrev pub with_handed : Board → List ℕ → Bool → Board
+with_handed b c forgettable =
+    record b { handed = b.handed ++ record { clause = c; forgettable = forgettable } ∷ [] }
+
+abbrev pub with_wanted : Board → ℕ → Board
+with_wanted b v = record b { wanted = b.wanted ++ v ∷ [] }
 
 -- the entries up to a level
 abbrev pub within : ℕ → List Seen → List Seen
@@ -100,11 +119,12 @@ in_phase v (Some false) = Some (neg_lit v)
 abbrev pub phase_on : List (Option Bool) → ℕ → Option ℕ
 phase_on phases v = in_phase v (slice_index_or phases v None)
 
--- The shape of every seen trail: its variables are observed, none stands twice, the levels rise along it, and none is above the
--- current one.
+-- The shape of every seen trail: its variables are observed, none stands twice, the levels rise
+-- along it, and none is above the current one.
 pub record IsSeenTrail (observed : List ℕ) (seen : List Seen) (level : ℕ) : Type 0 where
   pub known : (k : ℕ) → k < length seen → has observed (seen_var (entry seen k)) ≡ true
-  pub apart : (i j : ℕ) → i < length seen → j < length seen → seen_var (entry seen i) ≡ seen_var (entry seen j) → i ≡ j
+  pub apart : (i j : ℕ) → i < length seen → j < length seen
+      → seen_var (entry seen i) ≡ seen_var (entry seen j) → i ≡ j
   pub rising : (i j : ℕ) → i ≤ j → j < length seen → (entry seen i).level ≤ (entry seen j).level
   pub below : (k : ℕ) → k < length seen → (entry seen k).level ≤ level
   pub room : level ≤ max_var

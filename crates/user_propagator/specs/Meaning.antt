@@ -1,6 +1,9 @@
--- What a propagator means, and the relations that its laws are made of. Each law relates the meanings, and the desk, before a call to
--- those after it.
-use Rattle.std.specs.Prelude.{ℕ, ◌+◌, ◌≡◌, ◌≢◌, ◌≤◌, ◌<◌, ◌⊎◌, ◌||◌, ◌&&◌, Bool, true, false, List, [], ◌∷◌, ◌++◌, length, take, drop, map, Option, Some, None, if◌then◌else◌, nat_lt, is_some, All, Any, Contains}
+-- What a propagator means, and the relations that its laws are made of. Each law relates the
+-- meanings, and the desk, before a call to those after it.
+use Rattle.std.specs.Prelude.{ℕ, ◌+◌, ◌≡◌, ◌≢◌, ◌≤◌, ◌<◌, ◌⊎◌, ◌||◌, ◌&&◌, nat_lt}
+use Rattle.std.specs.Prelude.{Bool, true, false}
+use Rattle.std.specs.Prelude.{List, [], ◌∷◌, ◌++◌, length, take, drop, map, All, Any}
+use Rattle.std.specs.Prelude.{Option, Some, None, is_some, if◌then◌else◌}
 use Rattle.sat_terms.specs.Limits.{max_var, max_number}
 use Rattle.sat_terms.specs.Literal.{has, neg, var_of, pos_lit}
 use Rattle.sat_terms.specs.Truth.{Assignment, values, lit_true, clause_true}
@@ -9,7 +12,8 @@ use Rattle.sat_model.specs.declared.constraint.Constraint.{Constraint}
 use Rattle.sat_model.specs.declared.constraint.Constraint.TheVariants.{AtLeast, Parity}
 use Rattle.sat_model.specs.declared.constraint.Kind.{Kind}
 use Rattle.user_propagator.specs.declared.seen.Seen.{Seen}
-use Rattle.user_propagator.specs.Board.{Board, Handed, SeenTrail, trail_of, trail_value, entry, within, empty_trail}
+use Rattle.user_propagator.specs.Board.{Board, Handed, SeenTrail, trail_of, trail_value, entry}
+use Rattle.user_propagator.specs.Board.{within, empty_trail}
 
 pub record Meaning : Type 0 where
   -- the assignments that the propagator lets pass
@@ -34,7 +38,8 @@ next_count n = if nat_lt n max_number then n + 1 else n
 
 -- the test depends on the scope alone
 abbrev pub DependsOnScope : Meaning → Type 0
-DependsOnScope t = (f g : Assignment) → ((v : ℕ) → has t.scope v ≡ true → f v ≡ g v) → t.admits f ≡ t.admits g
+DependsOnScope t =
+    (f g : Assignment) → ((v : ℕ) → has t.scope v ≡ true → f v ≡ g v) → t.admits f ≡ t.admits g
 
 -- nothing is admitted that was not admitted before
 abbrev pub AdmitsNoMore : Meaning → Meaning → Type 0
@@ -46,7 +51,8 @@ IsExplainedAt t seen k = t.explains (take k seen) (entry seen k).lit ≡ true
 
 -- what was explained is explained still
 abbrev pub KeepsExplained : Meaning → Meaning → List Seen → Type 0
-KeepsExplained old new seen = (k : ℕ) → k < length seen → IsExplainedAt old seen k → IsExplainedAt new seen k
+KeepsExplained old new seen =
+    (k : ℕ) → k < length seen → IsExplainedAt old seen k → IsExplainedAt new seen k
 
 -- what every call but `takes` and `admit` does to the plain meanings
 pub record Counted (old new : Meaning) : Type 0 where
@@ -75,7 +81,8 @@ pub record CanCut (b : Board) (level : ℕ) : Type 0 where
 
 -- the three changes of the seen trail
 abbrev pub put_on : Board → ℕ → Bool → Board
-put_on b l d = record b { seen = b.seen ++ record { lit = l; level = b.level; decision = d } ∷ [] }
+put_on b l d =
+    record b { seen = b.seen ++ record { lit = l; level = b.level; decision = d } ∷ [] }
 
 abbrev pub raise_on : Board → Board
 raise_on b = record b { level = b.level + 1 }
@@ -121,7 +128,8 @@ pub record IsFair (t : Meaning) (was now : Board) (h : Handed) : Type 0 where
 
 -- a variable that enters the scope is observed, or was asked for in this call
 abbrev pub KeepsScope : Meaning → Meaning → Board → Board → Type 0
-KeepsScope old new was now = (v : ℕ) → has new.scope v ≡ true → (has old.scope v || is_reached was now v) ≡ true
+KeepsScope old new was now =
+    (v : ℕ) → has new.scope v ≡ true → (has old.scope v || is_reached was now v) ≡ true
 
 -- every literal of the clause is false on the seen trail
 abbrev pub IsFalseSeen : List Seen → List ℕ → Type 0
@@ -159,7 +167,8 @@ pub record CalledBack (old new : Meaning) (was now : Board) : Type 0 where
 abbrev pub MakesTrue : Assignment → List Seen → Type 0
 MakesTrue f seen = All (λ e. lit_true f e.lit ≡ true) seen
 
--- The literal may be assigned, follows from the seen trail under what is admitted, and can be explained there.
+-- The literal may be assigned, follows from the seen trail under what is admitted, and can be
+-- explained there.
 pub record IsImplied (t : Meaning) (was : Board) (l : ℕ) : Type 0 where
   pub free : CanPut was l
   pub implied : (f : Assignment) → t.admits f ≡ true → MakesTrue f was.seen → lit_true f l ≡ true
@@ -181,7 +190,8 @@ pub record StandsAt (t : Meaning) (seen : List Seen) (k l : ℕ) : Type 0 where
   pub place : (entry seen k).lit ≡ l
   pub explained : IsExplainedAt t seen k
 
--- The clause holds l, its other literals are false on the seen trail before place k, and every admitted assignment makes it true.
+-- The clause holds l, its other literals are false on the seen trail before place k, and every
+-- admitted assignment makes it true.
 pub record IsReasonGiven (t : Meaning) (seen : List Seen) (k l : ℕ) (c : List ℕ) : Type 0 where
   pub holds : has c l ≡ true
   pub others : (x : ℕ) → has c x ≡ true → x ≢ l → trail_value (take k seen) x ≡ Some false
@@ -194,7 +204,8 @@ pub record IsWhole (b : Board) (model : List Bool) : Type 0 where
 
 -- a clause that was handed in the call is false in the model
 abbrev pub IsRefuted : List Bool → Board → Board → Type 0
-IsRefuted model was now = Any (λ h. clause_true (values model) h.clause ≡ false) (handed_now was now)
+IsRefuted model was now =
+    Any (λ h. clause_true (values model) h.clause ≡ false) (handed_now was now)
 
 -- the variables of the literals are observed
 pub record AreObserved (b : Board) (c : List ℕ) : Type 0 where
@@ -208,7 +219,8 @@ counted_lits (Parity odd lits) = lits
 -- what an accepted `admit` does
 pub record Admitted (old new : Meaning) (c : Constraint) : Type 0 where
   pub admits : (f : Assignment) → new.admits f ≡ (old.admits f && constraint_true f c)
-  pub scope : (v : ℕ) → has new.scope v ≡ true → (has old.scope v || has (map var_of (counted_lits c)) v) ≡ true
+  pub scope : (v : ℕ) → has new.scope v ≡ true
+      → (has old.scope v || has (map var_of (counted_lits c)) v) ≡ true
   pub accepted : new.accepted ≡ next_count old.accepted
 
 -- what a refused one does

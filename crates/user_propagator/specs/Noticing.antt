@@ -16,9 +16,10 @@ pub record IsFront (seen : List Seen) (level n : ℕ) : Type 0 where
   pub low : (k : ℕ) → k < n → (entry seen k).level ≤ level
   pub high : (k : ℕ) → n ≤ k → k < length seen → level < (entry seen k).level
 
--- The table has at each told variable the place of its literal, and at each observed one a place. There is room for as many literals
--- as it has places.
-pub record AreNoticed (observed : List ℕ) (seen : List Seen) (places : List ℕ) (most level : ℕ) : Type 0 where
+-- The table has at each told variable the place of its literal, and at each observed one a place.
+-- There is room for as many literals as it has places.
+pub record AreNoticed
+    (observed : List ℕ) (seen : List Seen) (places : List ℕ) (most level : ℕ) : Type 0 where
   pub placed : IsPlaced seen_var seen places most
   pub rises : Rises seen
   pub below : (k : ℕ) → k < length seen → (entry seen k).level ≤ level

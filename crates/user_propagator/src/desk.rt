@@ -1,28 +1,32 @@
 //! The desk: the part of the solver that a propagator is lent in a callback.
 //!
 //! A propagator keeps constraints of its own and is told each literal of the variables that it
-//! observes. In a callback it reads on its desk what it was told, and leaves there what it wants of
-//! the solver: to observe a further variable, to add a clause, to go back. It cannot reach into the
-//! solver itself, so what it asks for is done when it has returned, in a fixed order, and nothing
-//! that the solver is in the middle of can change under it. This is the interface of IPASIR-UP
-//! (Fazekas, Niemetz, Preiner, Kirchweger, Szeider and Biere, "IPASIR-UP: user propagators for CDCL",
-//! SAT 2023) with a mailbox in place of its calls back.
+//! observes. In a callback it reads on its desk what it was told, and leaves there what it wants
+//! of the solver: to observe a further variable, to add a clause, to go back. It cannot reach
+//! into the solver itself, so what it asks for is done when it has returned, in a fixed order,
+//! and nothing that the solver is in the middle of can change under it. This is the interface of
+//! IPASIR-UP (Fazekas, Niemetz, Preiner, Kirchweger, Szeider and Biere, "IPASIR-UP: user
+//! propagators for CDCL", SAT 2023) with a mailbox in place of its calls back.
 //!
-//! The solver owns the desk. It puts each notified literal there (`put`, `raise`, `cut`), and takes
-//! the requests one by one (`first_request`, `drop_request`); a propagator uses none of these. So
-//! the contracts of a propagator speak of the desk's seen trail, and hold whatever the solver's own
-//! trail is.
+//! The solver owns the desk. It puts each notified literal there (`put`, `raise`, `cut`), and
+//! takes the requests one by one (`first_request`, `drop_request`); a propagator uses none of
+//! these. So the contracts of a propagator speak of the desk's seen trail, and hold whatever the
+//! solver's own trail is.
 //!
-//! Contracts see a desk as a `Board`: each call is an equation between the board before and after,
-//! or between the answer and the board. Only `watch`, `observe` and `hand` take memory, and after
-//! `Memory` the board is as before.
-ghost use Rattle.std.specs.Prelude.{◌≡◌, ◌==◌, ◌<◌, ◌≤◌, ◌+◌, ℕ, true, [], ◌∷◌, ◌++◌, Some, None, is_some, OnOk, OnErr, if◌then◌else◌};
+//! Contracts see a desk as a `Board`: each call is an equation between the board before and
+//! after, or between the answer and the board. Only `watch`, `observe` and `hand` take memory,
+//! and after `Memory` the board is as before.
+ghost use Rattle.std.specs.Prelude.{◌≡◌, ◌==◌, ◌<◌, ◌≤◌, ℕ, true, Some, None, is_some};
+ghost use Rattle.std.specs.Prelude.{OnOk, OnErr, if◌then◌else◌};
 ghost use Rattle.std.specs.Option.{option_copied};
 ghost use Rattle.sat_terms.specs.Limits.{max_var};
 ghost use Rattle.sat_terms.specs.Literal.{has, var_of};
-ghost use Rattle.user_propagator.specs.Board.{Board, empty_board, trail_value, trail_place, trail_level, trail_decision, with_var, lower, within, phase_on, IsSeenTrail};
-ghost use Rattle.user_propagator.specs.Waiting.{requests as requests_of, waiting_of, desk_without, first, rest, without_first};
-ghost use Rattle.user_propagator.specs.Meaning.{CanPut};
+ghost use Rattle.user_propagator.specs.Board.{empty_board, trail_value, trail_place, trail_level};
+ghost use Rattle.user_propagator.specs.Board.{trail_decision, phase_on, IsSeenTrail};
+ghost use Rattle.user_propagator.specs.Board.{with_var, with_handed, with_wanted, lower};
+ghost use Rattle.user_propagator.specs.Waiting.{requests as requests_of, waiting_of, first, rest};
+ghost use Rattle.user_propagator.specs.Waiting.{desk_without, without_first};
+ghost use Rattle.user_propagator.specs.Meaning.{CanPut, put_on, raise_on, cut_to};
 
 use crate::notices::Notices;
 use crate::phases;
@@ -55,9 +59,18 @@ impl Model for Desk {
 
     ghost Value = { Board };
 
-    ghost view = { λ d. record { observed = d.notices.observed; seen = d.notices.seen; level = d.notices.level; wanted = d.requests.wanted; handed = d.requests.handed; back = d.requests.back; phases = d.phases.items } };
+    ghost view = { λ d. record {
+      observed = d.notices.observed;
+      seen = d.notices.seen;
+      level = d.notices.level;
+      wanted = d.requests.wanted;
+      handed = d.requests.handed;
+      back = d.requests.back;
+      phases = d.phases.items;
+    } };
 
-    ghost invariant = { λ d. (v : ℕ) → has d.notices.observed v ≡ true → v < vec_capacity d.phases };
+    ghost invariant = { λ d.
+        (v : ℕ) → has d.notices.observed v ≡ true → v < vec_capacity d.phases };
 }
 
 // What a propagator reads, and what it leaves.
@@ -111,18 +124,18 @@ impl Desk {
         self.notices.is_observed(var)
     }
 
-    /// The shape of every seen trail: its variables are observed, none stands twice, and the levels
-    /// rise. The call does nothing.
+    /// The shape of every seen trail: its variables are observed, none stands twice, and the
+    /// levels rise. The call does nothing.
     pub fn law_shape(&self)
         ensures { IsSeenTrail self.now.observed self.now.seen self.now.level }
     {
         self.notices.law_shape();
     }
 
-    /// Leaves a clause that the solver is to add; the flag says whether it may be forgotten. After
-    /// `Memory` nothing was left.
+    /// Leaves a clause that the solver is to add; the flag says whether it may be forgotten.
+    /// After `Memory` nothing was left.
     pub fn hand(&mut self, clause: &[Lit], forgettable: bool) -> Result<(), Memory>
-        ensures ok { OnOk result (self.new ≡ record self.old { handed = self.old.handed ++ record { clause = clause.now; forgettable = forgettable } ∷ [] }) }
+        ensures ok { OnOk result (self.new ≡ with_handed self.old clause.now forgettable) }
         ensures err { OnErr result (self.new ≡ self.old) }
     {
         let clause = Lits::from_slice(self.alloc, clause)?;
@@ -132,18 +145,19 @@ impl Desk {
 
     /// Asks the solver to observe a variable. After `Memory` nothing was asked.
     pub fn observe(&mut self, var: Var) -> Result<(), Memory>
-        ensures ok { OnOk result (self.new ≡ record self.old { wanted = self.old.wanted ++ var ∷ [] }) }
+        ensures ok { OnOk result (self.new ≡ with_wanted self.old var) }
         ensures err { OnErr result (self.new ≡ self.old) }
     {
         self.requests.observe(var)?;
         Ok(())
     }
 
-    /// Sets the phase of a literal's variable, which must be observed: it is to be decided so that
-    /// the literal is true. Nothing else changes.
+    /// Sets the phase of a literal's variable, which must be observed: it is to be decided so
+    /// that the literal is true. Nothing else changes.
     pub fn phase(&mut self, lit: Lit)
         requires { has self.old.observed (var_of lit) ≡ true }
-        ensures phases { (v : ℕ) → phase_on self.new.phases v ≡ (if v == var_of lit then Some lit else phase_on self.old.phases v) }
+        ensures phases { (v : ℕ) → phase_on self.new.phases v
+            ≡ (if v == var_of lit then Some lit else phase_on self.old.phases v) }
         ensures others { self.new ≡ record self.old { phases = self.new.phases } }
     {
         phases::set(&mut self.phases, lit);
@@ -174,10 +188,11 @@ impl Desk {
         }
     }
 
-    /// Observes a variable, and takes the memory of its place and its phase. Nothing changes where it
-    /// is observed already, nor after `Memory`.
+    /// Observes a variable, and takes the memory of its place and its phase. Nothing changes
+    /// where it is observed already, nor after `Memory`.
     pub fn watch(&mut self, var: Var) -> Result<(), Memory>
-        ensures ok { OnOk result (self.new ≡ record self.old { observed = with_var self.old.observed var }) }
+        ensures ok { OnOk result (self.new
+            ≡ record self.old { observed = with_var self.old.observed var }) }
         ensures err { OnErr result (self.new ≡ self.old) }
     {
         // The phase's memory comes first: `Notices::watch` changes nothing where it finds none.
@@ -186,11 +201,11 @@ impl Desk {
         Ok(())
     }
 
-    /// Appends a literal to the seen trail at the current level. Its variable must be observed, and
-    /// not stand there already. It takes no memory.
+    /// Appends a literal to the seen trail at the current level. Its variable must be observed,
+    /// and not stand there already. It takes no memory.
     pub fn put(&mut self, lit: Lit, decision: bool)
         requires { CanPut self.old lit }
-        ensures { self.new ≡ record self.old { seen = self.old.seen ++ record { lit = lit; level = self.old.level; decision = decision } ∷ [] } }
+        ensures { self.new ≡ put_on self.old lit decision }
     {
         self.notices.put(lit, decision);
     }
@@ -198,7 +213,7 @@ impl Desk {
     /// Opens a level. The current one must be below `MAX_VAR`.
     pub fn raise(&mut self)
         requires { self.old.level < max_var }
-        ensures { self.new ≡ record self.old { level = self.old.level + 1 } }
+        ensures { self.new ≡ raise_on self.old }
     {
         self.notices.raise();
     }
@@ -206,13 +221,13 @@ impl Desk {
     /// Cuts the seen trail back to a level, at most the current one. Requests stay.
     pub fn cut(&mut self, level: u32)
         requires { level ≤ self.old.level }
-        ensures { self.new ≡ record self.old { seen = within level self.old.seen; level = level } }
+        ensures { self.new ≡ cut_to self.old level }
     {
         self.notices.cut(level);
     }
 
-    /// The request that is to be taken first: variables before clauses before going back, each kind
-    /// in the order of asking. `None` exactly where none is left.
+    /// The request that is to be taken first: variables before clauses before going back, each
+    /// kind in the order of asking. `None` exactly where none is left.
     pub fn first_request(&self) -> Option<&Request>
         ensures first { option_copied result ≡ first (requests_of (waiting_of self.now)) }
         ensures left { is_some result ≡ is_some (first (requests_of (waiting_of self.now))) }
@@ -223,7 +238,8 @@ impl Desk {
     /// Takes that first request off. One must be left.
     pub fn drop_request(&mut self)
         requires { is_some (first (requests_of (waiting_of self.old))) ≡ true }
-        ensures first { requests_of (waiting_of self.new) ≡ rest (requests_of (waiting_of self.old)) }
+        ensures first { requests_of (waiting_of self.new)
+            ≡ rest (requests_of (waiting_of self.old)) }
         ensures after { self.new ≡ desk_without self.old (without_first (waiting_of self.old)) }
     {
         self.requests.drop_first();

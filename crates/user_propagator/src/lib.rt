@@ -1,5 +1,5 @@
-//! The interface of an outside propagator: the calls that a propagator answers (`Theory`), what it
-//! is lent in them (`Desk`), and the propagator without a constraint (`NoTheory`).
+//! The interface of an outside propagator: the calls that a propagator answers (`Theory`), what
+//! it is lent in them (`Desk`), and the propagator without a constraint (`NoTheory`).
 #![tactic(auto)]
 
 pub mod counting;

@@ -1,7 +1,8 @@
 //! The propagator without a constraint, for a solver that is to have none.
 ghost use Rattle.std.specs.Prelude.{◌≡◌, ℕ, Ok, None, true, refl, IfOk, OnOk, OnErr};
 ghost use Rattle.sat_terms.specs.Truth.{values};
-ghost use Rattle.user_propagator.specs.Meaning.{Admitted, Refused, KeptByAdmit, CalledBack, StandsAt, IsReasonGiven, InStep};
+ghost use Rattle.user_propagator.specs.Meaning.{Admitted, Refused, KeptByAdmit, CalledBack};
+ghost use Rattle.user_propagator.specs.Meaning.{StandsAt, IsReasonGiven, InStep};
 ghost use Rattle.user_propagator.specs.Nothing.{no_meaning};
 
 use crate::counting::next;
@@ -13,8 +14,8 @@ use sat_model::literal::Lit;
 use sat_model::memory::Memory;
 use std::alloc::Global;
 
-/// The propagator that takes no constraint, observes nothing, admits every assignment, decides and
-/// implies nothing and accepts every model.
+/// The propagator that takes no constraint, observes nothing, admits every assignment, decides
+/// and implies nothing and accepts every model.
 #[derive(Drop)]
 pub struct NoTheory {
     // How many of its callbacks there were.
@@ -41,9 +42,12 @@ impl Theory for NoTheory {
 
     // No kind is taken, so the trait's conditions never hold: this asks for none of them.
     fn admit(&mut self, _alloc: Global, what: &Constraint, desk: &Desk) -> Result<(), Memory>
-        ensures ok { OnOk result (Admitted (no_meaning self.old.asked) (no_meaning self.new.asked) what.now) }
-        ensures err { OnErr result (Refused (no_meaning self.old.asked) (no_meaning self.new.asked)) }
-        ensures kept { KeptByAdmit (no_meaning self.old.asked) (no_meaning self.new.asked) desk.now }
+        ensures ok { OnOk result (Admitted (no_meaning self.old.asked)
+            (no_meaning self.new.asked) what.now) }
+        ensures err { OnErr result (Refused (no_meaning self.old.asked)
+            (no_meaning self.new.asked)) }
+        ensures kept { KeptByAdmit (no_meaning self.old.asked)
+            (no_meaning self.new.asked) desk.now }
     {
         Err(Memory)
     }
@@ -61,7 +65,8 @@ impl Theory for NoTheory {
     }
 
     fn decide(&mut self, desk: &mut Desk) -> Result<Option<Lit>, Memory>
-        ensures called { CalledBack (no_meaning self.old.asked) (no_meaning self.new.asked) desk.old desk.new }
+        ensures called { CalledBack (no_meaning self.old.asked)
+            (no_meaning self.new.asked) desk.old desk.new }
         ensures decided { result ≡ Ok None }
     {
         self.asked = next(self.asked);
@@ -75,8 +80,11 @@ impl Theory for NoTheory {
 
     // No literal is explained, so the trait's conditions never hold: this asks for none of them.
     fn reason(&mut self, lit: Lit, desk: &Desk, out: &mut Lits) -> Result<(), Memory>
-        ensures called { CalledBack (no_meaning self.old.asked) (no_meaning self.new.asked) desk.now desk.now }
-        ensures given { OnOk result ((k : ℕ) → StandsAt (no_meaning self.old.asked) desk.now.seen k lit → IsReasonGiven (no_meaning self.new.asked) desk.now.seen k lit out.new) }
+        ensures called { CalledBack (no_meaning self.old.asked)
+            (no_meaning self.new.asked) desk.now desk.now }
+        ensures given { OnOk result ((k : ℕ)
+            → StandsAt (no_meaning self.old.asked) desk.now.seen k lit
+            → IsReasonGiven (no_meaning self.new.asked) desk.now.seen k lit out.new) }
     {
         self.asked = next(self.asked);
         Err(Memory)

@@ -1,9 +1,9 @@
 //! What a propagator was told: the observed variables and the seen trail.
 //!
-//! A propagator is told each literal of an observed variable in the order of the trail, and in its
-//! callbacks asks for the value, the level or the place of many variables. So each is found by the
-//! variable's number, with one read of a table and one of the list: the table has the place of each
-//! variable's literal.
+//! A propagator is told each literal of an observed variable in the order of the trail, and in
+//! its callbacks asks for the value, the level or the place of many variables. So each is found
+//! by the variable's number, with one read of a table and one of the list: the table has the
+//! place of each variable's literal.
 //!
 //! What the table has counts only where that place holds a literal of the variable (a sparse set:
 //! Briggs and Torczon, "An efficient representation for sparse sets", 1993). So going back is one
@@ -11,14 +11,18 @@
 //! literal is told at the current level and going back takes all above a level: what stays is the
 //! front.
 //!
-//! `watch` takes the memory of all that can be told later: there is room for as many literals as the
-//! table has places, and no variable stands twice. So the three notices themselves cannot fail.
-ghost use Rattle.std.specs.Prelude.{◌≡◌, ◌<◌, ◌≤◌, ◌+◌, ℕ, true, [], ◌∷◌, ◌++◌, length, None, OnOk, OnErr};
+//! `watch` takes the memory of all that can be told later: there is room for as many literals as
+//! the table has places, and no variable stands twice. So the three notices themselves cannot
+//! fail.
+ghost use Rattle.std.specs.Prelude.{◌≡◌, ◌<◌, ◌≤◌, ◌+◌, ℕ, true, [], ◌∷◌, ◌++◌, length, None};
+ghost use Rattle.std.specs.Prelude.{OnOk, OnErr};
 ghost use Rattle.sat_terms.specs.Limits.{max_var};
 ghost use Rattle.sat_terms.specs.Literal.{has, var_of};
 ghost use Rattle.std.specs.Vec.{vec_capacity};
 ghost use Rattle.flag_set.specs.Work.{IsPlaced};
-ghost use Rattle.user_propagator.specs.Board.{nothing_noticed, seen_var, trail_value, trail_entry, trail_place, with_var, within, IsSeenTrail};
+ghost use Rattle.user_propagator.specs.Board.{nothing_noticed, seen_var, trail_value};
+ghost use Rattle.user_propagator.specs.Board.{trail_entry, trail_place, with_var, within};
+ghost use Rattle.user_propagator.specs.Board.{IsSeenTrail};
 ghost use Rattle.user_propagator.specs.Noticing.{IsFront, Rises};
 
 use crate::seen::Seen;
@@ -49,9 +53,14 @@ impl Model for Notices {
 
     ghost Value = { Noticed };
 
-    ghost view = { λ n. record { observed = n.observed.members; seen = n.seen.items; level = n.level } };
+    ghost view = { λ n. record {
+      observed = n.observed.members;
+      seen = n.seen.items;
+      level = n.level;
+    } };
 
-    ghost invariant = { λ n. AreNoticed n.observed.members n.seen.items n.places.items (vec_capacity n.seen) n.level };
+    ghost invariant = { λ n.
+        AreNoticed n.observed.members n.seen.items n.places.items (vec_capacity n.seen) n.level };
 }
 
 // How many entries stand at the front up to a level.
@@ -158,7 +167,8 @@ impl Notices {
     // Observes a variable, and takes the memory of all that can be told of it. After `Memory` the
     // same variables are observed.
     pub(crate) fn watch(&mut self, var: Var) -> Result<(), Memory>
-        ensures ok { OnOk result (self.new ≡ record self.old { observed = with_var self.old.observed var }) }
+        ensures ok { OnOk result (self.new
+            ≡ record self.old { observed = with_var self.old.observed var }) }
         ensures err { OnErr result (self.new ≡ self.old) }
     {
         make_room(&mut self.seen, &mut self.places, var)?;
@@ -171,7 +181,10 @@ impl Notices {
     pub(crate) fn put(&mut self, lit: Lit, decision: bool)
         requires observed { has self.old.observed (var_of lit) ≡ true }
         requires unseen { trail_value self.old.seen lit ≡ None }
-        ensures { self.new ≡ record self.old { seen = self.old.seen ++ record { lit = lit; level = self.old.level; decision = decision } ∷ [] } }
+        ensures { self.new ≡ record self.old {
+          seen = self.old.seen
+              ++ record { lit = lit; level = self.old.level; decision = decision } ∷ [];
+        } }
     {
         let place = self.seen.len();
         let entry = Seen {
@@ -197,7 +210,8 @@ impl Notices {
     // Goes back to a level.
     pub(crate) fn cut(&mut self, level: u32)
         requires { level ≤ self.old.level }
-        ensures { self.new ≡ record self.old { seen = within level self.old.seen; level = level } }
+        ensures { self.new
+            ≡ record self.old { seen = within level self.old.seen; level = level } }
     {
         let kept = front_len(&self.seen, level);
         self.seen.truncate(kept);

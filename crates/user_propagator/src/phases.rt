@@ -2,7 +2,8 @@
 //!
 //! They are kept in a table by variable. Its memory is taken when a variable is observed, and the
 //! table grows into it when a phase is first set, so setting one cannot fail.
-ghost use Rattle.std.specs.Prelude.{◌≡◌, ◌<◌, ◌≤◌, ◌==◌, ℕ, Some, OnOk, if◌then◌else◌, length, vec_capacity};
+ghost use Rattle.std.specs.Prelude.{◌≡◌, ◌<◌, ◌≤◌, ◌==◌, ℕ, Some, OnOk, if◌then◌else◌};
+ghost use Rattle.std.specs.Prelude.{length, vec_capacity};
 ghost use Rattle.sat_terms.specs.Literal.{var_of};
 ghost use Rattle.user_propagator.specs.Board.{phase_on};
 
@@ -41,7 +42,8 @@ fn grow(phases: &mut Vec<Option<bool>>, at: usize)
 // Sets the phase of a literal's variable so that the literal is true.
 pub(crate) fn set(phases: &mut Vec<Option<bool>>, lit: Lit)
     requires { var_of lit < vec_capacity phases.old }
-    ensures phases { (v : ℕ) → phase_on phases.new.items v ≡ (if v == var_of lit then Some lit else phase_on phases.old.items v) }
+    ensures phases { (v : ℕ) → phase_on phases.new.items v
+        ≡ (if v == var_of lit then Some lit else phase_on phases.old.items v) }
     ensures more { vec_capacity phases.old ≤ vec_capacity phases.new }
 {
     let at = lit.var().index() as usize;

@@ -3,8 +3,8 @@
 use sat_model::lists::Lits;
 use sat_model::literal::Var;
 
-/// What a propagator asks for in a callback, or leaves there. The solver does it once the callback
-/// has returned, and takes the request off the desk only when it is done.
+/// What a propagator asks for in a callback, or leaves there. The solver does it once the
+/// callback has returned, and takes the request off the desk only when it is done.
 #[derive(Drop)]
 pub enum Request {
     /// To observe a variable.

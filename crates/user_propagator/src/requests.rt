@@ -6,12 +6,15 @@
 //! kind lies in a queue of its own, so asking costs one step, and so does taking the first one.
 //!
 //! A request is lent to the solver while it lies here and goes only when its work is done
-//! (`first_request`, then `drop_first`), so a solver that finds no memory in the middle of the work
-//! loses none. Of the levels to go back to only the least counts, so one is kept.
-ghost use Rattle.std.specs.Prelude.{◌≡◌, ◌++◌, ◌∷◌, [], false, IsTrue, is_some, OnOk, OnErr, Some, None};
+//! (`first_request`, then `drop_first`), so a solver that finds no memory in the middle of the
+//! work loses none. Of the levels to go back to only the least counts, so one is kept.
+ghost use Rattle.std.specs.Prelude.{◌≡◌, ◌++◌, ◌∷◌, [], false, IsTrue, is_some, OnOk, OnErr};
+ghost use Rattle.std.specs.Prelude.{Some, None};
 ghost use Rattle.std.specs.Option.{option_copied, option_to_list};
 ghost use Rattle.user_propagator.specs.Board.{lower};
-ghost use Rattle.user_propagator.specs.Waiting.{Waiting, nothing_waiting, requests as requests_of, first, rest, without_first, level_in};
+ghost use Rattle.user_propagator.specs.Waiting.{Waiting, nothing_waiting};
+ghost use Rattle.user_propagator.specs.Waiting.{requests as requests_of, first, rest};
+ghost use Rattle.user_propagator.specs.Waiting.{without_first, level_in};
 ghost use Rattle.user_propagator.specs.declared.request.Request.{Request};
 
 use crate::request::Request;
@@ -39,9 +42,14 @@ impl Model for Requests {
 
     ghost Value = { Waiting };
 
-    ghost view = { λ r. record { wanted = vars_in r.wanted.items; handed = clauses_in r.handed.items; back = level_in r.back } };
+    ghost view = { λ r. record {
+      wanted = vars_in r.wanted.items;
+      handed = clauses_in r.handed.items;
+      back = level_in r.back;
+    } };
 
-    ghost invariant = { λ r. AreVars r.wanted.items × AreClauses r.handed.items × IsLevel r.back };
+    ghost invariant = { λ r.
+        AreVars r.wanted.items × AreClauses r.handed.items × IsLevel r.back };
 }
 
 // Puts a request at the end of a queue. After `Memory` the queue is as before.
@@ -74,8 +82,10 @@ fn first_of<'a>(
     handed: &'a VecDeque<Request>,
     back: &'a Option<Request>,
 ) -> Option<&'a Request>
-    ensures first { option_copied result ≡ first (wanted.now.items ++ (handed.now.items ++ option_to_list back.now)) }
-    ensures left { is_some result ≡ is_some (first (wanted.now.items ++ (handed.now.items ++ option_to_list back.now))) }
+    ensures first { option_copied result
+        ≡ first (wanted.now.items ++ (handed.now.items ++ option_to_list back.now)) }
+    ensures left { is_some result
+        ≡ is_some (first (wanted.now.items ++ (handed.now.items ++ option_to_list back.now))) }
 {
     if let Some(request) = front_of(wanted) {
         return Some(request);
@@ -121,7 +131,8 @@ impl Requests {
 
     // Asks for a variable.
     pub(crate) fn observe(&mut self, var: Var) -> Result<(), Memory>
-        ensures ok { OnOk result (self.new ≡ record self.old { wanted = self.old.wanted ++ var ∷ [] }) }
+        ensures ok { OnOk result (self.new
+            ≡ record self.old { wanted = self.old.wanted ++ var ∷ [] }) }
         ensures err { OnErr result (self.new ≡ self.old) }
     {
         enqueue(&mut self.wanted, Request::Observe(var))?;
@@ -130,7 +141,10 @@ impl Requests {
 
     // Leaves a clause.
     pub(crate) fn hand(&mut self, clause: Lits, forgettable: bool) -> Result<(), Memory>
-        ensures ok { OnOk result (self.new ≡ record self.old { handed = self.old.handed ++ record { clause = clause; forgettable = forgettable } ∷ [] }) }
+        ensures ok { OnOk result (self.new ≡ record self.old {
+          handed = self.old.handed
+              ++ record { clause = clause; forgettable = forgettable } ∷ [];
+        }) }
         ensures err { OnErr result (self.new ≡ self.old) }
     {
         enqueue(&mut self.handed, Request::Clause(clause, forgettable))?;

@@ -1,5 +1,5 @@
-//! Desks that are filled and emptied in the order that is promised, tables and queues of hundreds,
-//! and the propagator without a constraint.
+//! Desks that are filled and emptied in the order that is promised, tables and queues of
+//! hundreds, and the propagator without a constraint.
 ghost use Rattle.std.specs.Prelude.{◌≡◌, IsTrue};
 ghost use Rattle.user_propagator.specs.Meaning.{CanPut};
 
@@ -47,12 +47,17 @@ fn is_free(desk: &Desk, lit: Lit) -> bool
     desk.is_observed(lit.var()) && desk.value(lit).is_none()
 }
 
+// Puts a literal, if it may be put.
+fn put_lit(desk: &mut Desk, lit: Lit, decision: bool) {
+    if is_free(desk, lit) {
+        desk.put(lit, decision);
+    }
+}
+
 // Puts the literal of this number, if it may be put.
 fn put(desk: &mut Desk, number: i32, decision: bool) {
     if let Some(lit) = Lit::new(number) {
-        if is_free(desk, lit) {
-            desk.put(lit, decision);
-        }
+        put_lit(desk, lit, decision);
     }
 }
 
@@ -82,7 +87,8 @@ fn set_phase(desk: &mut Desk, number: i32) {
     }
 }
 
-// What a desk says of the literal of this number: value, level, place, and whether it was decided.
+// What a desk says of the literal of this number: value, level, place, and whether it was
+// decided.
 fn facts(desk: &Desk, number: i32) -> (Option<bool>, Option<u32>, Option<u32>, bool) {
     match Lit::new(number) {
         None => (None, None, None, false),
@@ -201,8 +207,8 @@ fn hundreds_fit(rt: HostRuntime) -> Result<(), Fail> {
     let mut lits = [Lit::new(1).ok_or("no literal")?; 300];
     for number in 1..=300 {
         raise(&mut desk);
-        put(&mut desk, -number, true);
         let lit = Lit::new(number).ok_or("no literal")?;
+        put_lit(&mut desk, lit.neg(), true);
         lits[number as usize - 1] = lit;
         desk.hand(&lits, true)?;
         desk.observe(lit.var())?;
