@@ -6,7 +6,7 @@ use Rattle.sat_terms.specs.Literal.{has, neg, var_of}
 use Rattle.sat_terms.specs.Truth.{Assignment, lit_true, clause_true}
 use Rattle.sat_terms.proofs.Models.{lit_true_pos, lit_true_neg}
 use Rattle.user_propagator.specs.declared.seen.Seen.{Seen}
-use Rattle.user_propagator.specs.Board.{Board, Handed, trail_value}
+use Rattle.user_propagator.specs.Board.{Board, trail_value, with_handed}
 use Rattle.user_propagator.specs.Meaning.{Meaning, DependsOnScope}
 
 -- the clause of two literals
@@ -38,7 +38,7 @@ reject_meaning a b asked = pair_meaning a b explains_nothing asked
 
 -- the desk with the clause, if it was handed
 abbrev pub pair_desk : ℕ → ℕ → Bool → Board → Board
-pair_desk a b true was = record was { handed = was.handed ++ record { clause = pair a b; forgettable = false } ∷ [] }
+pair_desk a b true was = with_handed was (pair a b) false
 pair_desk a b false was = was
 
 -- both literals are of observed variables, and false on the seen trail

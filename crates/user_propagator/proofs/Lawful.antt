@@ -1,14 +1,13 @@
 -- Lemmas for those who write a propagator: what a callback that changes little meets.
-use Rattle.std.proofs.Common.{ℕ, ◌+◌, ◌≡◌, ◌≢◌, ◌≤◌, ◌<◌, ◌||◌, Bool, true, false, eqb, List, [], ◌∷◌, ◌++◌, length, drop, Option, Some, None, inl, inr, refl, sym, ap, ◌∙◌, subst, arith}
-use Rattle.std.specs.Prelude.{All}
+use Rattle.std.proofs.Common.{ℕ, ◌≡◌, ◌||◌, Bool, true, false, eqb, List, [], ◌∷◌, Option, Some, None, inl, inr, refl, sym, ◌∙◌, subst, arith}
 use Rattle.std.proofs.Math.Seq.{drop-append_seam, drop-length}
-use Rattle.std.proofs.lemmas.Bool.{or_cases, or_left, or_right, eqb-true, eq-eqb, false≢true}
+use Rattle.std.proofs.lemmas.Bool.{or_cases, or_left, eqb-true, false≢true}
 use Rattle.std.proofs.lemmas.List.Elements.{All-nil, All-cons}
 use Rattle.std.proofs.lemmas.List.{append-nil}
 use Rattle.sat_terms.specs.Literal.{has, var_of}
 use Rattle.sat_terms.specs.Truth.{Assignment, clause_true}
 use Rattle.user_propagator.specs.Board.{Board, Handed, with_handed, with_wanted}
-use Rattle.user_propagator.specs.Meaning.{Meaning, Counted, CalledBack, InStep, is_reached, IsFair, OnlyAsks, IsQuiet, IsFalseOrUnit, IsFalseSeen, KeepsScope, LevelFell, asked_now, handed_now, next_count}
+use Rattle.user_propagator.specs.Meaning.{Meaning, CalledBack, InStep, is_reached, IsFair, IsFalseOrUnit, LevelFell, asked_now, next_count}
 
 -- only the count changes
 pub record IsRecounted (old new : Meaning) : Type 0 where

@@ -1,15 +1,15 @@
 -- Laws of the table of places beside the seen trail.
-use Rattle.std.proofs.Common.{◌≡◌, ◌≢◌, ℕ, suc, zero, ◌+◌, ◌-◌, ◌<◌, ◌≤◌, Bool, true, false, ◌||◌, eqb, List, [], ◌∷◌, ◌++◌, length, get_or, take, set, Option, Some, None, inl, inr, refl, sym, ap, ◌∙◌, subst, arith}
-use Rattle.std.proofs.lemmas.Bool.{eqb-true, eqb-false, cases_eq, or_cases, or_left, false≢true}
+use Rattle.std.proofs.Common.{◌≡◌, ◌≢◌, ℕ, ◌+◌, ◌<◌, ◌≤◌, Bool, true, false, ◌||◌, eqb, List, [], ◌∷◌, ◌++◌, length, get_or, take, set, Some, None, inl, inr, refl, sym, ap, ◌∙◌, arith}
+use Rattle.std.proofs.lemmas.Bool.{eqb-true, eqb-false, cases_eq, or_cases, or_left}
 use Rattle.std.proofs.lemmas.List.{get_or_read, get_or_append_left, get_or_push, get_or-take, length-append, length-take-le, length-set}
 use Rattle.sat_terms.specs.Limits.{max_var}
 use Rattle.sat_terms.specs.Literal.{has}
 use Rattle.flag_set.specs.Listed.{lists}
 use Rattle.flag_set.specs.Work.{IsPlaced, number_at}
-use Rattle.flag_set.proofs.Placing.{number_read, one_place, placed_push, lists_with, there, place_of}
+use Rattle.flag_set.proofs.Placing.{number_read, one_place, placed_push, lists_with, there}
 use Rattle.user_propagator.specs.declared.seen.Seen.{Seen}
 use Rattle.user_propagator.specs.Board.{entry, no_entry, seen_var, with_var, trail_place, IsSeenTrail}
-use Rattle.user_propagator.specs.Noticing.{Rises, IsFront, AreNoticed}
+use Rattle.user_propagator.specs.Noticing.{IsFront, AreNoticed}
 use Rattle.user_propagator.proofs.Seeing.{place_some, place_none}
 
 -- the entries of a list with one more, and of the front of one

@@ -1,8 +1,7 @@
 -- Laws of requests that are kept by kind.
-use Rattle.std.proofs.Common.{◌≡◌, ℕ, suc, zero, Bool, true, false, List, [], ◌∷◌, ◌++◌, Option, Some, None, refl, sym, ap, ◌∙◌, subst, arith}
+use Rattle.std.proofs.Common.{◌≡◌, ℕ, suc, Bool, List, [], ◌∷◌, ◌++◌, Option, Some, None, refl, sym, ap, ◌∙◌, arith}
 use Rattle.std.specs.Prelude.{map}
 use Rattle.std.specs.Option.{option_to_list}
-use Rattle.std.proofs.lemmas.List.{append-nil}
 use Rattle.user_propagator.specs.Board.{Handed}
 use Rattle.user_propagator.specs.Waiting.{Waiting, clause_request, back_requests, requests, first, rest, rest_of, without_first, vars_in, clauses_in, level_in, AreVars, AreClauses, IsLevel}
 use Rattle.user_propagator.specs.declared.request.Request.{Request}

@@ -5,7 +5,7 @@ use Rattle.std.specs.Prelude.{Bool, true, false}
 use Rattle.std.specs.Prelude.{List, [], ◌∷◌, ◌++◌, length, take, drop, map, All, Any}
 use Rattle.std.specs.Prelude.{Option, Some, None, is_some, if◌then◌else◌}
 use Rattle.sat_terms.specs.Limits.{max_var, max_number}
-use Rattle.sat_terms.specs.Literal.{has, neg, var_of, pos_lit}
+use Rattle.sat_terms.specs.Literal.{has, var_of, pos_lit}
 use Rattle.sat_terms.specs.Truth.{Assignment, values, lit_true, clause_true}
 use Rattle.sat_model.specs.Constraint.{constraint_true}
 use Rattle.sat_model.specs.declared.constraint.Constraint.{Constraint}

@@ -1,5 +1,5 @@
 -- The requests on a desk: by kind, and in the order in which they are taken.
-use Rattle.std.specs.Prelude.{ℕ, ◌≡◌, ◌++◌, Bool, List, [], ◌∷◌, Option, Some, None, map}
+use Rattle.std.specs.Prelude.{ℕ, ◌≡◌, ◌++◌, List, [], ◌∷◌, Option, Some, None, map}
 use Rattle.std.specs.Option.{option_to_list}
 use Rattle.user_propagator.specs.Board.{Board, Handed}
 use Rattle.user_propagator.specs.declared.request.Request.{Request}

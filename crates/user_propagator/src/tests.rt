@@ -205,11 +205,11 @@ fn hundreds_fit(rt: HostRuntime) -> Result<(), Fail> {
     let mut desk = Desk::new(rt.alloc());
     watch_each(&mut desk, 600)?;
     let mut lits = [Lit::new(1).ok_or("no literal")?; 300];
-    for number in 1..=300 {
+    for at in 0..300usize {
         raise(&mut desk);
-        let lit = Lit::new(number).ok_or("no literal")?;
+        let lit = Var::new(at as u32 + 1).ok_or("no variable")?.positive();
         put_lit(&mut desk, lit.neg(), true);
-        lits[number as usize - 1] = lit;
+        lits[at] = lit;
         desk.hand(&lits, true)?;
         desk.observe(lit.var())?;
     }

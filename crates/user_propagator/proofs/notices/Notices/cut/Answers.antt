@@ -1,4 +1,4 @@
-use Rattle.std.proofs.Common.{◌≡◌, vec_capacity, refl, arith}
+use Rattle.std.proofs.Common.{vec_capacity, refl, arith}
 use Rattle.user_propagator.proofs.Seeing.{front_is}
 use Rattle.user_propagator.proofs.Noticing.{noticed_cut}
 use Rattle.user_propagator.proofs.notices.Notices.cut.Goals as goal

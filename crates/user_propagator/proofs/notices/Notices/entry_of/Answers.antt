@@ -1,6 +1,6 @@
-use Rattle.std.proofs.Common.{◌≡◌, ◌<◌, ◌∙◌, length, Some, sym, ap, arith}
+use Rattle.std.proofs.Common.{◌∙◌, Some, sym, ap, arith}
 use Rattle.std.proofs.lemmas.List.{get_or_read}
-use Rattle.user_propagator.specs.Board.{no_entry, trail_place}
+use Rattle.user_propagator.specs.Board.{no_entry}
 use Rattle.user_propagator.proofs.Seeing.{entry_none, entry_some}
 use Rattle.user_propagator.proofs.notices.Notices.entry_of.Goals as goal
 

@@ -1,4 +1,3 @@
-use Rattle.std.proofs.Common.{subst}
 use Rattle.user_propagator.proofs.Noticing.{shape_of}
 use Rattle.user_propagator.proofs.notices.Notices.law_shape.Goals as goal
 

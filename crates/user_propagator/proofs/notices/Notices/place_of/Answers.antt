@@ -1,7 +1,5 @@
-use Rattle.std.proofs.Common.{sym, ap, arith, ◌∙◌}
-use Rattle.std.proofs.lemmas.List.{get_or_read}
+use Rattle.std.proofs.Common.{sym, arith}
 use Rattle.flag_set.proofs.Placing.{not_past, not_there, place_read}
-use Rattle.user_propagator.specs.Board.{no_entry, seen_var}
 use Rattle.user_propagator.proofs.Seeing.{place_none}
 use Rattle.user_propagator.proofs.Noticing.{place_yes, place_no}
 use Rattle.user_propagator.proofs.notices.Notices.place_of.Goals as goal

@@ -1,4 +1,4 @@
-use Rattle.std.proofs.Common.{◌≡◌, ◌∙◌, refl, ap}
+use Rattle.std.proofs.Common.{◌∙◌, refl, ap}
 use Rattle.user_propagator.specs.Waiting.{vars_in, clauses_in}
 use Rattle.user_propagator.proofs.Queues.{first_var, first_clause}
 use Rattle.user_propagator.proofs.requests.Requests.drop_first.Goals as goal

@@ -1,4 +1,4 @@
-use Rattle.std.proofs.Common.{◌≡◌, ◌++◌, ◌∷◌, [], ap, ◌∙◌}
+use Rattle.std.proofs.Common.{◌++◌, ◌∷◌, [], ap, ◌∙◌}
 use Rattle.user_propagator.specs.Waiting.{Waiting, clauses_in}
 use Rattle.user_propagator.proofs.Queues.{clauses_push, AreClauses-push}
 use Rattle.user_propagator.proofs.requests.Requests.hand.Goals as goal

@@ -1,4 +1,4 @@
-use Rattle.std.proofs.Common.{◌≡◌, ◌++◌, ◌∷◌, [], ap, ◌∙◌}
+use Rattle.std.proofs.Common.{◌++◌, ◌∷◌, [], ap, ◌∙◌}
 use Rattle.user_propagator.specs.Waiting.{Waiting, vars_in}
 use Rattle.user_propagator.proofs.Queues.{vars_push, AreVars-push}
 use Rattle.user_propagator.proofs.requests.Requests.observe.Goals as goal
