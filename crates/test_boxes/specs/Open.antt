@@ -1,9 +1,11 @@
--- What boxes mean that have no clause: those that admit everything, and the one that admits nothing.
+-- What boxes mean that have no clause: those that admit everything, and the one that admits
+-- nothing.
 use Rattle.std.specs.Prelude.{ℕ, ◌≡◌, ◌≤◌, ◌++◌, Bool, true, false, List, [], length}
 use Rattle.user_propagator.specs.Board.{Board}
 use Rattle.user_propagator.specs.Meaning.{Meaning}
 
--- It admits everything, is in step with every seen trail, explains nothing and need not be steady.
+-- It admits everything, is in step with every seen trail, explains nothing and need not be
+-- steady.
 abbrev pub open_meaning : ℕ → Meaning
 open_meaning asked = record { admits = λ _. true; scope = []; in_step = λ _. true; explains = λ _ _. false; steady = false; kinds = []; asked = asked; accepted = 0 }
 

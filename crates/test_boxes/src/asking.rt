@@ -45,7 +45,8 @@ impl Asking {
         }
     }
 
-    // Asks for the variable, if it is time and was not done. After `Memory` it is still to be done.
+    // Asks for the variable, if it is time and was not done. After `Memory` it is still to be
+    // done.
     fn ask(&mut self, now: Moment, desk: &mut Desk) -> Result<(), Memory>
         ensures asked { self.new.asked ≡ self.old.asked }
         ensures desk { HasAsked desk.old desk.new }

@@ -1,7 +1,7 @@
 //! A box round another one that counts its calls where a test can see them.
 //!
-//! Nothing can be read from a box that is owned as `dyn Theory`. So the counts lie in cells that the
-//! test shares with it; no clause speaks of what a cell holds.
+//! Nothing can be read from a box that is owned as `dyn Theory`. So the counts lie in cells that
+//! the test shares with it; no clause speaks of what a cell holds.
 ghost use Rattle.std.specs.Prelude.{◌≡◌};
 
 use sat_model::constraint::{Constraint, Kind};

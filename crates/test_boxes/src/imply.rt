@@ -15,8 +15,8 @@ use user_propagator::counting::next;
 use user_propagator::desk::Desk;
 use user_propagator::theory::Theory;
 
-/// Knows that one literal implies another. It implies the second where the first is true, explains
-/// it by the clause of both, and hands that clause where it is false.
+/// Knows that one literal implies another. It implies the second where the first is true,
+/// explains it by the clause of both, and hands that clause where it is false.
 #[derive(Drop)]
 pub struct Imply {
     // The literal that implies, and the one that is implied.
@@ -100,8 +100,8 @@ impl Theory for Imply {
         if clause_true(model, &[self.from.neg(), self.to]) {
             return Ok(true);
         }
-        // The clause is false on the trail too, unless one of the variables is not observed yet: then
-        // a steady box can neither hand the clause nor ask for the variable.
+        // The clause is false on the trail too, unless one of the variables is not observed yet:
+        // then a steady box can neither hand the clause nor ask for the variable.
         if hand_if_broken(self.from.neg(), self.to, desk)? {
             return Ok(false);
         }

@@ -12,8 +12,8 @@ use user_propagator::counting::next;
 use user_propagator::desk::Desk;
 use user_propagator::theory::Theory;
 
-/// Admits nothing: it refuses each model by the empty clause, which follows from it as every clause
-/// does.
+/// Admits nothing: it refuses each model by the empty clause, which follows from it as every
+/// clause does.
 #[derive(Drop)]
 pub struct Refusing {
     // How many callbacks there were.

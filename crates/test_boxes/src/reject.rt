@@ -14,8 +14,8 @@ use user_propagator::counting::next;
 use user_propagator::desk::Desk;
 use user_propagator::theory::Theory;
 
-/// Knows that one of two literals is true, implies nothing by it, and hands the clause where a model
-/// makes it false.
+/// Knows that one of two literals is true, implies nothing by it, and hands the clause where a
+/// model makes it false.
 #[derive(Drop)]
 pub struct Reject {
     // The two literals.
@@ -92,8 +92,8 @@ impl Theory for Reject {
         if clause_true(model, &[self.first, self.second]) {
             return Ok(true);
         }
-        // The clause is false on the trail too, unless one of the variables is not observed yet: then
-        // a steady box can neither hand the clause nor ask for the variable.
+        // The clause is false on the trail too, unless one of the variables is not observed yet:
+        // then a steady box can neither hand the clause nor ask for the variable.
         if hand_if_broken(self.first, self.second, desk)? {
             return Ok(false);
         }

@@ -1,5 +1,5 @@
-//! Each box on a desk of its own, driven by hand as a solver would drive it: what it implies, hands,
-//! asks for and refuses.
+//! Each box on a desk of its own, driven by hand as a solver would drive it: what it implies,
+//! hands, asks for and refuses.
 ghost use Rattle.std.specs.Prelude.{◌≡◌, IsTrue};
 ghost use Rattle.user_propagator.specs.Meaning.{CanPut};
 
@@ -65,7 +65,15 @@ fn imply_implies_and_hands(rt: HostRuntime) -> Result<(), Fail> {
     assert_eq!(rt; theory.propagate(&mut desk)?, None);
     assert_eq!(rt; clause_len(&desk), Some(2));
     assert_eq!(rt; theory.decide(&mut desk)?, None);
-    assert_eq!(rt; [calls.propagate(), calls.decide(), calls.check(), calls.all()], [3, 1, 0, 4]);
+    assert_eq!(rt;
+        [
+            calls.propagate(),
+            calls.decide(),
+            calls.check(),
+            calls.all()
+        ],
+        [3, 1, 0, 4]
+    );
     Ok(())
 }
 
