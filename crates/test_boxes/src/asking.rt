@@ -1,0 +1,121 @@
+//! A box that wants to observe a variable in the middle of a search.
+ghost use Rattle.std.specs.Prelude.{◌≡◌, ℕ, refl, OnOk, OnErr};
+ghost use Rattle.user_propagator.specs.Meaning.{Admitted, Refused, KeptByAdmit, CalledBack, StandsAt, IsReasonGiven};
+ghost use Rattle.test_boxes.specs.Open.{open_meaning, HasAsked};
+
+use sat_model::constraint::{Constraint, Kind};
+use sat_model::lists::Lits;
+use sat_model::literal::{Lit, Var};
+use sat_model::memory::Memory;
+use std::alloc::Global;
+use user_propagator::counting::next;
+use user_propagator::desk::Desk;
+use user_propagator::theory::Theory;
+
+/// When a box asks for its variable.
+#[derive(Clone, Copy, Debug, PartialEq, Eq)]
+pub enum Moment {
+    /// At its first `propagate`.
+    Propagate,
+    /// At its first `check`.
+    Check,
+}
+
+/// Admits everything, and asks once for a variable: in the middle of a search, or at a model that
+/// it accepts all the same.
+#[derive(Drop)]
+pub struct Asking {
+    // The variable, until it was asked for.
+    wanted: Option<Var>,
+    // When it is to be asked for.
+    moment: Moment,
+    // How many callbacks there were.
+    asked: u64,
+}
+
+impl Asking {
+    /// The box, before its first callback.
+    pub fn new(wanted: Var, moment: Moment) -> Asking
+        ensures { ⟦<Asking as Theory>⟧.meaning result ≡ open_meaning 0 }
+    {
+        Asking {
+            wanted: Some(wanted),
+            moment,
+            asked: 0,
+        }
+    }
+
+    // Asks for the variable, if it is time and was not done. After `Memory` it is still to be
+    // done.
+    fn ask(&mut self, now: Moment, desk: &mut Desk) -> Result<(), Memory>
+        ensures asked { self.new.asked ≡ self.old.asked }
+        ensures desk { HasAsked desk.old desk.new }
+    {
+        if self.moment != now {
+            return Ok(());
+        }
+        let Some(var) = self.wanted else {
+            return Ok(());
+        };
+        desk.observe(var)?;
+        self.wanted = None;
+        Ok(())
+    }
+}
+
+impl Theory for Asking {
+    ghost meaning = { λ t. open_meaning t.asked };
+
+    ghost depends = { λ t f g h. refl };
+
+    fn takes(&self, _kind: Kind) -> bool {
+        false
+    }
+
+    // No kind is taken, so the trait's conditions never hold: this asks for none of them.
+    fn admit(&mut self, _alloc: Global, what: &Constraint, desk: &Desk) -> Result<(), Memory>
+        ensures ok { OnOk result (Admitted (open_meaning self.old.asked) (open_meaning self.new.asked) what.now) }
+        ensures err { OnErr result (Refused (open_meaning self.old.asked) (open_meaning self.new.asked)) }
+        ensures kept { KeptByAdmit (open_meaning self.old.asked) (open_meaning self.new.asked) desk.now }
+    {
+        Err(Memory)
+    }
+
+    fn notify_assigned(&mut self, _lit: Lit, _decision: bool) {
+        self.asked = next(self.asked);
+    }
+
+    fn notify_level(&mut self) {
+        self.asked = next(self.asked);
+    }
+
+    fn notify_back(&mut self, _level: u32) {
+        self.asked = next(self.asked);
+    }
+
+    fn decide(&mut self, _desk: &mut Desk) -> Result<Option<Lit>, Memory> {
+        self.asked = next(self.asked);
+        Ok(None)
+    }
+
+    fn propagate(&mut self, desk: &mut Desk) -> Result<Option<Lit>, Memory> {
+        self.asked = next(self.asked);
+        self.ask(Moment::Propagate, desk)?;
+        Ok(None)
+    }
+
+    // No literal is explained, so the trait's conditions never hold: this asks for none of them.
+    fn reason(&mut self, lit: Lit, desk: &Desk, out: &mut Lits) -> Result<(), Memory>
+        ensures called { CalledBack (open_meaning self.old.asked) (open_meaning self.new.asked) desk.now desk.now }
+        ensures given { OnOk result ((k : ℕ) → StandsAt (open_meaning self.old.asked) desk.now.seen k lit → IsReasonGiven (open_meaning self.new.asked) desk.now.seen k lit out.new) }
+    {
+        self.asked = next(self.asked);
+        Err(Memory)
+    }
+
+    fn check(&mut self, _model: &[bool], desk: &mut Desk) -> Result<bool, Memory> {
+        self.asked = next(self.asked);
+        self.ask(Moment::Check, desk)?;
+        Ok(true)
+    }
+}
