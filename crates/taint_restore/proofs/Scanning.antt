@@ -1,6 +1,5 @@
 -- Laws of the marks that the walk makes.
-use Rattle.std.proofs.Common.{◌≡◌, ◌≢◌, length-set, ℕ, suc, zero, ◌+◌, ◌<◌, ◌≤◌, ◌↔◌, Bool, true, false, ◌||◌, eqb, List, [], ◌∷◌, ◌++◌, length, get_or, set, take, inl, inr, refl, sym, ap, ◌∙◌, arith, add-one}
-use Rattle.std.specs.Prelude.{IsTrue}
+use Rattle.std.proofs.Common.{◌≡◌, ◌≢◌, length-set, ℕ, suc, zero, ◌+◌, ◌<◌, ◌≤◌, Bool, true, false, ◌||◌, eqb, List, [], ◌∷◌, ◌++◌, length, get_or, set, take, inl, inr, refl, sym, ap, ◌∙◌, arith, add-one}
 use Rattle.std.proofs.lemmas.Bool.{cases_eq, or_cases, or_left, or_right, false≢true, eqb-true, eq-eqb}
 use Rattle.std.proofs.lemmas.List.{get_or-set_same, get_or-set_other, get_or_read}
 use Rattle.std.proofs.lemmas.List.Folds.{list_any_more, list_any-append}
@@ -10,7 +9,8 @@ use Rattle.sat_terms.proofs.Members.{same_tests}
 use Rattle.redundancy.specs.Redundancy.{Entry, touches, entry}
 use Rattle.redundancy.proofs.Touching.{touches-some, touches-from}
 use Rattle.witness_stack.specs.MarkSet.{marked, tainted}
-use Rattle.taint_restore.specs.Needed.{Needed}
+use Rattle.taint_restore.specs.Needed.{SayNeeded}
+use Rattle.taint_restore.specs.Marking.{MarksMore}
 use Rattle.taint_restore.proofs.Walk.{marks_at, chosen_at}
 use Rattle.taint_restore.proofs.Walking.{marks_at-next, needed-from_chosen, chosen-from_needed}
 
@@ -30,8 +30,8 @@ has-append : (c d : List ℕ) (l : ℕ) → has (c ++ d) l ≡ (has c l || has d
 has-append c d l = list_any-append (λ x. eqb x l) c d
 
 -- one more literal is marked
-pub mark_step : (lits : List ℕ) (i x : ℕ) (m0 m m' : List Bool) → i < length lits → x ≡ get_or lits i x → ((k : ℕ) → marked m (neg k) ≡ (has (take i lits) k || marked m0 (neg k))) → ((l : ℕ) → marked m' l ≡ (eqb (neg x) l || marked m l))
-    → (k : ℕ) → marked m' (neg k) ≡ (has (take (i + 1) lits) k || marked m0 (neg k))
+pub mark_step : (lits : List ℕ) (i x : ℕ) (m0 m m' : List Bool) → i < length lits → x ≡ get_or lits i x → MarksMore (take i lits) m0 m → ((l : ℕ) → marked m' l ≡ (eqb (neg x) l || marked m l))
+    → MarksMore (take (i + 1) lits) m0 m'
 mark_step lits i x m0 m m' in' is before more k =
     let here : has (take (i + 1) lits) k ≡ (has (take i lits) k || eqb x k) = list_any_more (λ y. eqb y k) lits i x in' ∙ rw (← is) refl in
     rw (more (neg k), eqb-neg x k, before k, here) (or_swap (eqb x k) (has (take i lits) k) (marked m0 (neg k)))
@@ -71,7 +71,7 @@ pub record Scanned (m flags : List Bool) (lits : List ℕ) (s : List Entry) (fro
   pub done : (k : ℕ) → k < from → get_or flags k false ≡ chosen_at lits s k
 
 -- before the first entry
-pub scan_start : (m0 m flags : List Bool) (lits : List ℕ) (s : List Entry) → ((l : ℕ) → marked m0 l ≡ false) → ((l : ℕ) → marked m (neg l) ≡ (has lits l || marked m0 (neg l))) → length flags ≡ length s → Scanned m flags lits s 0
+pub scan_start : (m0 m flags : List Bool) (lits : List ℕ) (s : List Entry) → ((l : ℕ) → marked m0 l ≡ false) → MarksMore lits m0 m → length flags ≡ length s → Scanned m flags lits s 0
 scan_start m0 m flags lits s none more long = record {
   long = long;
   marks = λ l. more l ∙ rw (none (neg l)) (or_false (has lits l));
@@ -84,7 +84,7 @@ scan_start m0 m flags lits s none more long = record {
 module _ (m flags : List Bool) (lits : List ℕ) (s : List Entry) (k : ℕ) (scanned : Scanned m flags lits s k) where
   -- one entry was looked at
   pub scan_step : (m' : List Bool) (b : Bool) → k < length s → b ≡ tainted m (entry s k).witness
-      → (b ≡ true → (l : ℕ) → marked m' (neg l) ≡ (has (entry s k).clause l || marked m (neg l))) → (b ≡ false → m' ≡ m)
+      → (b ≡ true → MarksMore (entry s k).clause m m') → (b ≡ false → m' ≡ m)
       → Scanned m' (set flags k b) lits s (k + 1)
   scan_step m' b in' is more same =
       let here : b ≡ chosen_at lits s k = is ∙ tainted-touches m (marks_at lits s k) (entry s k).witness scanned.marks in
@@ -98,13 +98,13 @@ module _ (m flags : List Bool) (lits : List ℕ) (s : List Entry) (k : ℕ) (sca
               | inr n ↦ get_or-set_other flags k j b false n ∙ scanned.done j (omega arith)
             ];
       } where
-        next : (b : Bool) → (b ≡ true → (l : ℕ) → marked m' (neg l) ≡ (has (entry s k).clause l || marked m (neg l))) → (b ≡ false → m' ≡ m)
+        next : (b : Bool) → (b ≡ true → MarksMore (entry s k).clause m m') → (b ≡ false → m' ≡ m)
             → (l : ℕ) → marked m' (neg l) ≡ has (cond b ((entry s k).clause ++ marks_at lits s k) (marks_at lits s k)) l
         next true more same l = more refl l ∙ ap (λ x. has (entry s k).clause l || x) (scanned.marks l) ∙ sym (has-append (entry s k).clause (marks_at lits s k) l)
         next false more same l = rw (same refl) (scanned.marks l)
 
   -- after the last entry the flags say which are needed
-  pub scan_end : k ≡ length s → (j : ℕ) → j < length s → IsTrue (get_or flags j false) ↔ Needed lits s j
+  pub scan_end : k ≡ length s → SayNeeded flags lits s
   scan_end e j in' =
       let is = scanned.done j (omega arith) in (
         (λ t. needed-from_chosen lits s j in' (sym is ∙ t)),
@@ -112,7 +112,7 @@ module _ (m flags : List Bool) (lits : List ℕ) (s : List Entry) (k : ℕ) (sca
       )
 
 -- what a flag says
-pub flag_at : (flags : List Bool) (lits : List ℕ) (s : List Entry) (j : ℕ) (x b : Bool) → length flags ≡ length s → ((k : ℕ) → k < length s → IsTrue (get_or flags k false) ↔ Needed lits s k) → j < length s → x ≡ get_or flags j x → x ≡ b → chosen_at lits s j ≡ b
+pub flag_at : (flags : List Bool) (lits : List ℕ) (s : List Entry) (j : ℕ) (x b : Bool) → length flags ≡ length s → SayNeeded flags lits s → j < length s → x ≡ get_or flags j x → x ≡ b → chosen_at lits s j ≡ b
 flag_at flags lits s j x b long are in' is was =
     let same : get_or flags j false ≡ chosen_at lits s j = same_tests (get_or flags j false) (chosen_at lits s j)
     (λ t. (chosen-from_needed lits s j ((are j in').0 t)).1)

@@ -30,7 +30,8 @@ stack_at-stay m [] k in' h = absurd (omega arith)
 stack_at-stay m (e ∷ s) zero in' h = rw h refl
 stack_at-stay m (e ∷ s) (suc k) in' h = ap (λ t. e ∷ t) (stack_at-stay (marks_after m e) s k (omega arith) h)
 
--- A chosen entry stands at its place when its turn comes, its clause is clean for the entries behind it, and without it the stack is the next one.
+-- A chosen entry stands at its place when its turn comes, its clause is clean for the entries
+-- behind it, and without it the stack is the next one.
 pub stack_at-entry : (m : List ℕ) (s : List Entry) (k : ℕ) → k < length s → entry (stack_at m s (suc k)) k ≡ entry s k
 stack_at-entry m [] k in' = absurd (omega arith)
 stack_at-entry m (e ∷ s) zero in' = refl

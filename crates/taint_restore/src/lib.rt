@@ -1,4 +1,5 @@
-//! Restoration: stacked clauses come back exactly where some literals need them, so that these literals are clean.
+//! Restoration: stacked clauses come back exactly where some literals need them, so that these
+//! literals are clean.
 #![tactic(auto)]
 
 pub mod restore;

@@ -1,5 +1,6 @@
-//! What literals need of stacks made by the rules: the stack `(1: 1 2)`, `(-2: -2 3)`, `(-3: -3 4)`; some hundred small random ones, beside
-//! the definition as it reads; and stacks of four thousand long clauses, above every buffer, of which half are restored.
+//! What literals need of stacks made by the rules: the stack `(1: 1 2)`, `(-2: -2 3)`, `(-3: -3
+//! 4)`; some hundred small random ones, beside the definition as it reads; and stacks of four
+//! thousand long clauses, above every buffer, of which half are restored.
 ghost use Rattle.std.specs.Prelude.{◌≡◌, ◌<◌, ℕ, None, length, OnOk};
 ghost use Rattle.clause_store.specs.Stored.{slot};
 
@@ -22,8 +23,8 @@ const TRIES: u32 = 20;
 // How many entries a tall stack has.
 const TALL: u32 = 4000;
 
-// Adds a clause to a kernel without clauses and parks it with its first `count` literals, where it is normal and clean. Otherwise the
-// kernel stays.
+// Adds a clause to a kernel without clauses and parks it with its first `count` literals, where
+// it is normal and clean. Otherwise the kernel stays.
 fn park(kernel: &mut Kernel, lits: &[Lit], count: usize) -> Result<(), Fail>
     requires { (id : ℕ) → slot kernel.old.store id ≡ None }
     ensures { OnOk result ((id : ℕ) → slot kernel.new.store id ≡ None) }
@@ -109,7 +110,8 @@ fn draw_clause(alloc: Global, state: &mut u64) -> Result<Vec<Lit>, Fail> {
     Ok(lits)
 }
 
-// Draws a kernel with a stack: clauses that are clean when they come, with one or two literals as witness.
+// Draws a kernel with a stack: clauses that are clean when they come, with one or two literals as
+// witness.
 fn draw_kernel(alloc: Global, state: &mut u64) -> Result<Kernel, Fail> {
     let mut kernel = Kernel::new(alloc);
     for _try in 0..TRIES {
@@ -134,7 +136,8 @@ fn is_touched(witness: &[Lit], lits: &[Lit]) -> bool {
     lits.iter().any(|l| witness.contains(&l.neg()))
 }
 
-// Whether an older entry is marked that has in its clause the negation of a literal of this witness.
+// Whether an older entry is marked that has in its clause the negation of a literal of this
+// witness.
 fn needs_older(stack: &Entries, needed: &[bool], k: usize) -> bool
     requires { k < length stack.now }
 {
@@ -156,7 +159,8 @@ fn mark_round(stack: &Entries, lits: &[Lit], needed: &mut Vec<bool>) {
     }
 }
 
-// Which entries the literals need, by the definition: rounds over all entries, as many as there are, from the newest on.
+// Which entries the literals need, by the definition: rounds over all entries, as many as there
+// are, from the newest on.
 fn needed_of(alloc: Global, stack: &Entries, lits: &[Lit]) -> Result<Vec<bool>, Fail> {
     let mut needed = vec![in alloc; false; stack.len()]?;
     for _round in 0..stack.len() {
@@ -182,7 +186,8 @@ fn are_left(old: &Entries, needed: &[bool], new: &Stack) -> bool {
     at == new.len()
 }
 
-// Whether the ids name the clauses of the marked entries, from the newest to the oldest, and the firm clauses are no others.
+// Whether the ids name the clauses of the marked entries, from the newest to the oldest, and the
+// firm clauses are no others.
 fn are_listed(old: &Entries, needed: &[bool], kernel: &Kernel, ids: &[ClauseId]) -> bool {
     let mut at = 0usize;
     for k in (0..old.len()).rev() {
@@ -210,7 +215,8 @@ fn counts(old: &Entries, needed: &[bool], lits: &[Lit]) -> [usize; 2] {
     [touched, needed.iter().filter(|n| **n).count()]
 }
 
-// Draws a kernel and some literals, restores, and compares. Answers whether entries stay, and some are needed by others alone.
+// Draws a kernel and some literals, restores, and compares. Answers whether entries stay, and
+// some are needed by others alone.
 fn compare(alloc: Global, state: &mut u64) -> Result<bool, Fail> {
     let mut kernel = draw_kernel(alloc, state)?;
     let mut lits = draw_clause(alloc, state)?;
