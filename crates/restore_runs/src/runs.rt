@@ -16,6 +16,7 @@ use taint_restore::restore::restore_for;
 
 // How many clauses are added, and how many entries restored by calls of their own.
 const ADDED: u32 = 10_000;
+
 const SINGLE: u32 = 100;
 
 // The clause of a number, or `None` where its variables are too great.
@@ -114,7 +115,11 @@ pub(crate) fn answer(alloc: Global, request: Request) -> Result<Report, Memory> 
     let restored = match request.run {
         Run::Park => 0,
         Run::Clean => add_each(alloc, &mut kernel, request.count)?,
-        Run::Half => restore_for(alloc, &mut kernel, every_second(alloc, request.count)?.as_slice())?,
+        Run::Half => restore_for(
+            alloc,
+            &mut kernel,
+            every_second(alloc, request.count)?.as_slice(),
+        )?,
         Run::Single => restore_each(alloc, &mut kernel)?,
     };
     let firm = kernel.store().firm_ids().len();
