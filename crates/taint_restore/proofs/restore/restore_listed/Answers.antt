@@ -34,7 +34,7 @@ loop-k-init c = record {
 pub restore-requires-clause-clean : goal.restore-requires-clause-clean
 restore-requires-clause-clean c =
     restore_clean _ _ _ _ _ (c.loop-k.k - 1) c.loop-k.invariant.so_far (omega arith)
-    (flag_at _ _ _ _ _ _ (sym c.in_ok-chosen.chosen.ok.0 ∙ rw c.stack.ensures at c.in_ok-chosen.ensures.len) (rw c.stack.ensures at c.in_ok-chosen.ensures.chosen) (omega arith) c.index.ensures c.if-index.true)
+    (flag_at _ _ _ _ _ _ (sym c.in_ok-chosen.chosen.ok.0 ∙ rw c.stack.ensures at c.in_ok-chosen.ensures.len) (rw c.stack.ensures at c.in_ok-chosen.ensures.needed) (omega arith) c.index.ensures c.if-index.true)
 
 pub returns-in_err-id-clause-same : goal.returns-in_err-id-clause-same
 returns-in_err-id-clause-same c = rw c.in_err-id.ensures.err (seen _ _ _ _ _ c.loop-k.invariant.so_far).same
@@ -52,7 +52,7 @@ returns-in_err-id-clause-partial c =
 pub loop-k-preserved-in-Continue-branch-4 : goal.loop-k-preserved-in-Continue-branch-4
 loop-k-preserved-in-Continue-branch-4 c = record {
   so_far = restore_step _ _ _ _ _ (c.loop-k.k - 1) c.loop-k.invariant.so_far (omega arith) _ _ _ c.in_ok-push.ensures.items
-      (flag_at _ _ _ _ _ _ (sym c.in_ok-chosen.chosen.ok.0 ∙ rw c.stack.ensures at c.in_ok-chosen.ensures.len) (rw c.stack.ensures at c.in_ok-chosen.ensures.chosen) (omega arith) c.index.ensures c.if-index.true)
+      (flag_at _ _ _ _ _ _ (sym c.in_ok-chosen.chosen.ok.0 ∙ rw c.stack.ensures at c.in_ok-chosen.ensures.len) (rw c.stack.ensures at c.in_ok-chosen.ensures.needed) (omega arith) c.index.ensures c.if-index.true)
       c.in_ok-id.ensures.ok;
   room = room_taken _ _ _ _ (c.loop-k.k - 1) _ c.loop-k.invariant.room (omega arith) (omega (arith, sym c.in_ok-chosen.chosen.ok.0 ∙ rw c.stack.ensures at c.in_ok-chosen.ensures.len)) c.index.ensures _ _ c.if-index.true c.in_ok-push.ensures.len c.push.ensures.capacity;
 }
@@ -60,7 +60,7 @@ loop-k-preserved-in-Continue-branch-4 c = record {
 pub loop-k-preserved : goal.loop-k-preserved
 loop-k-preserved c = record {
   so_far = stay_step _ _ _ _ _ (c.loop-k.k - 1) c.loop-k.invariant.so_far (omega arith)
-      (flag_at _ _ _ _ _ _ (sym c.in_ok-chosen.chosen.ok.0 ∙ rw c.stack.ensures at c.in_ok-chosen.ensures.len) (rw c.stack.ensures at c.in_ok-chosen.ensures.chosen) (omega arith) c.index.ensures c.if-index.false);
+      (flag_at _ _ _ _ _ _ (sym c.in_ok-chosen.chosen.ok.0 ∙ rw c.stack.ensures at c.in_ok-chosen.ensures.len) (rw c.stack.ensures at c.in_ok-chosen.ensures.needed) (omega arith) c.index.ensures c.if-index.false);
   room = room_kept _ _ _ _ (c.loop-k.k - 1) _ c.loop-k.invariant.room (omega arith) (omega (arith, sym c.in_ok-chosen.chosen.ok.0 ∙ rw c.stack.ensures at c.in_ok-chosen.ensures.len)) c.index.ensures c.if-index.false;
 }
 
