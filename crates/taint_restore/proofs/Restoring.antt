@@ -15,6 +15,8 @@ use Rattle.taint_restore.specs.Restored.Restored.{none, one_more}
 use Rattle.taint_restore.specs.Needed.{NeededLeft, OnlyNeededLeft}
 use Rattle.taint_restore.proofs.Walking.{stack_at-all, stack_at-stay, stack_at-entry, stack_at-length, stack_at-clean, stack_at-take_out, Without-needed, OnlyNeeded-at, unchosen-clean}
 use Rattle.taint_restore.proofs.Counting.{SameClauses-restored}
+use Rattle.taint_restore.specs.Standing.{KeepsStanding}
+use Rattle.taint_restore.proofs.Standing.{keeps_restored}
 use Rattle.taint_restore.proofs.Listing.{KeepsLive-restored, Once-restored}
 
 -- the kernel while the chosen entries from a place on are restored, and the ids so far
@@ -88,6 +90,7 @@ pub record Seen (lits : List ℕ) (old new : State) (ids : List ℕ) : Type 0 wh
   pub listed : HasEachOnce (came_at old.store new.store) ids
   pub live : KeepsLive old.store new.store
   pub partial : OnlyNeededLeft lits old.stack new.stack
+  pub standing : KeepsStanding old new
 
 pub seen : (lits : List ℕ) (old now : State) (k : ℕ) (ids : List ℕ) → Restoring lits old now k ids → Seen lits old now ids
 seen lits old now k ids r = record {
@@ -97,6 +100,7 @@ seen lits old now k ids r = record {
   listed = record { once = Once-restored old now ids r.restored };
   live = KeepsLive-restored old now ids r.restored;
   partial = restoring_partial lits old now k ids r;
+  standing = keeps_restored old now ids r.restored;
 }
 
 -- the chain is kept

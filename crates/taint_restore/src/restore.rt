@@ -34,6 +34,7 @@ ghost use Rattle.taint_restore.specs.Needed.{SayNeeded, NeededLeft, OnlyNeededLe
 ghost use Rattle.taint_restore.specs.Marking.{MarksMore};
 ghost use Rattle.taint_restore.specs.Restored.{Restored, IsRestored, SameClauses, KeepsLive};
 ghost use Rattle.taint_restore.specs.Restored.{came_at};
+ghost use Rattle.taint_restore.specs.Standing.{KeepsStanding};
 
 use rule_kernel::kernel::Kernel;
 use sat_model::lists::ClauseId;
@@ -105,6 +106,7 @@ pub fn restore_listed(
     ensures count { length ids.new.items + length kernel.new.stack ≡ length kernel.old.stack }
     ensures same { SameClauses kernel.old kernel.new }
     ensures chained { IsChained kernel.new }
+    ensures standing { KeepsStanding kernel.old kernel.new }
     ensures restored { Restored kernel.old ids.new.items kernel.new }
     ensures listed { HasEachOnce (came_at kernel.old.store kernel.new.store) ids.new.items }
     ensures live { KeepsLive kernel.old.store kernel.new.store }
@@ -141,6 +143,7 @@ pub fn restore_for(alloc: Global, kernel: &mut Kernel, lits: &[Lit]) -> Result<u
     ensures count { IfOk result (λ n. n + length kernel.new.stack ≡ length kernel.old.stack) }
     ensures same { SameClauses kernel.old kernel.new }
     ensures chained { IsChained kernel.new }
+    ensures standing { KeepsStanding kernel.old kernel.new }
     ensures restored { IsRestored kernel.old kernel.new }
     ensures untouched { Clean lits.now kernel.old.stack → kernel.new ≡ kernel.old }
     ensures spared { Clean lits.now kernel.old.stack → IsOk result }

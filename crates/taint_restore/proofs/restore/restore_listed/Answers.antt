@@ -84,3 +84,9 @@ returns-clause-chained c = chained_so_far _ _ _ _ _ c.loop-k.invariant.so_far c.
 
 pub returns-in_err-id-clause-chained : goal.returns-in_err-id-clause-chained
 returns-in_err-id-clause-chained c = rw c.in_err-id.ensures.err (chained_so_far _ _ _ _ _ c.loop-k.invariant.so_far c.law_chain.ensures)
+
+pub returns-clause-standing : goal.returns-clause-standing
+returns-clause-standing c = (seen _ _ _ _ _ c.loop-k.invariant.so_far).standing
+
+pub returns-in_err-id-clause-standing : goal.returns-in_err-id-clause-standing
+returns-in_err-id-clause-standing c = rw c.in_err-id.ensures.err (seen _ _ _ _ _ c.loop-k.invariant.so_far).standing
