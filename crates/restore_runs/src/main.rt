@@ -1,14 +1,15 @@
-//! Restores entries of tall stacks, as tall as it is told: bench/restore.py shows by it what restoration costs.
+//! Restores entries of tall stacks, as tall as it is told: bench/restore.py shows by it what
+//! restoration costs.
 //!
 //! Each line of standard input is a run, as `half 100000`:
 //!
 //!     park N      parks N clauses that share no variable
-//!     clean N     the same, and then adds 10,000 clauses, each with what it needs restored first, which is nothing
-//!     half N      the same as park, and then restores what every second witness's negation needs, in one call
-//!     single N    the same as park, and then restores 100 entries, each by a call of its own
+//!     clean N     then adds 10,000 more, each with what it needs restored first: nothing
+//!     half N      parks N, and restores what every second witness's negation needs, in one call
+//!     single N    parks N, and restores 100 entries, each by a call of its own
 //!
-//! A line of output says how many clauses were parked, added and restored, and where they are in the end; it says nothing of time. All
-//! runs of an input begin with nothing.
+//! A line of output says how many entries were restored, how many clauses are firm in the end, and
+//! how many entries are left; it says nothing of time. All runs of an input begin with nothing.
 #![tactic(auto)]
 
 mod request;

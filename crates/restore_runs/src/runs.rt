@@ -1,8 +1,9 @@
 //! Stacks made by the kernel's rules, and what is restored from them.
 //!
-//! Each clause has three positive literals of its own variables. It is added to a kernel without clauses and parked with its last literal,
-//! which witnesses it, since there is no other firm clause. So a stack of any height stands before an empty store, and the time of a run
-//! is that of the rules and of restoration.
+//! Each clause has three positive literals of its own variables. It is added to a kernel without
+//! clauses and parked with its last literal, which witnesses it, since there is no other firm
+//! clause. So a stack of any height stands before an empty store, and the time of a run is that
+//! of the rules and of restoration.
 ghost use Rattle.std.specs.Prelude.{◌≡◌, ℕ, None, OnOk, IfOk};
 ghost use Rattle.clause_store.specs.Stored.{slot};
 
@@ -41,7 +42,7 @@ fn park_one(kernel: &mut Kernel, number: u32) -> Result<(), Memory>
         return Ok(());
     }
     let id = kernel.add(&lits)?;
-    kernel.park(id, &[lits[0]])?;
+    kernel.park(id, &lits[..1])?;
     Ok(())
 }
 

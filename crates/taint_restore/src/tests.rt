@@ -42,24 +42,38 @@ fn lit(number: i32) -> Result<Lit, Fail> {
     Ok(Lit::new(number).ok_or("no literal")?)
 }
 
+// Parks the clause of two literals with the first of them.
+fn park_pair(kernel: &mut Kernel, low: i32, high: i32) -> Result<(), Fail>
+    requires { (id : ℕ) → slot kernel.old.store id ≡ None }
+    ensures { OnOk result ((id : ℕ) → slot kernel.new.store id ≡ None) }
+{
+    let lits = [lit(low)?, lit(high)?];
+    park(kernel, &lits, 1)
+}
+
 // The stack `(1: 1 2)`, `(-2: -2 3)`, `(-3: -3 4)`.
 fn three_parked(alloc: Global) -> Result<Kernel, Fail> {
     let mut kernel = Kernel::new(alloc);
-    park(&mut kernel, &[lit(1)?, lit(2)?], 1)?;
-    park(&mut kernel, &[lit(-2)?, lit(3)?], 1)?;
-    park(&mut kernel, &[lit(-3)?, lit(4)?], 1)?;
+    for (low, high) in [(1, 2), (-2, 3), (-3, 4)] {
+        park_pair(&mut kernel, low, high)?;
+    }
     Ok(kernel)
 }
 
-// How many entries one literal needs of it, how many stay, and how many clauses are firm then.
-fn needed_of_three(alloc: Global, number: i32) -> Result<[usize; 3], Fail> {
-    let mut kernel = three_parked(alloc)?;
-    let count = restore_for(alloc, &mut kernel, &[lit(number)?])?;
+// How many entries a literal needs, how many stay, and how many clauses are firm then.
+fn restore_one(alloc: Global, kernel: &mut Kernel, number: i32) -> Result<[usize; 3], Fail> {
+    let count = restore_for(alloc, kernel, &[lit(number)?])?;
     Ok([
         count as usize,
         kernel.stack().len(),
         kernel.store().firm_ids().len(),
     ])
+}
+
+// The same of that stack.
+fn needed_of_three(alloc: Global, number: i32) -> Result<[usize; 3], Fail> {
+    let mut kernel = three_parked(alloc)?;
+    restore_one(alloc, &mut kernel, number)
 }
 
 #[test]
@@ -215,24 +229,40 @@ fn counts(old: &Entries, needed: &[bool], lits: &[Lit]) -> [usize; 2] {
     [touched, needed.iter().filter(|n| **n).count()]
 }
 
-// Draws a kernel and some literals, restores, and compares. Answers whether entries stay, and
-// some are needed by others alone.
+// Restores what the literals need, and compares. Answers whether entries stay, and some are needed
+// by others alone.
+fn compare_with(
+    alloc: Global,
+    kernel: &mut Kernel,
+    lits: &[Lit],
+    old: &Entries,
+    needed: &[bool],
+) -> Result<bool, Fail> {
+    let mut ids = Vec::new(alloc);
+    restore_listed(alloc, kernel, lits, &mut ids)?;
+    if !are_left(old, needed, kernel.stack()) {
+        return Err("other entries are left")?;
+    }
+    if !are_listed(old, needed, kernel, ids.as_slice()) {
+        return Err("other clauses came")?;
+    }
+    let [touched, all] = counts(old, needed, lits);
+    Ok(touched < all && all < old.len())
+}
+
+// The same, with what the definition says of the stack.
+fn compare_for(alloc: Global, kernel: &mut Kernel, lits: &[Lit]) -> Result<bool, Fail> {
+    let old = copy_of(alloc, kernel.stack())?;
+    let needed = needed_of(alloc, &old, lits)?;
+    compare_with(alloc, kernel, lits, &old, needed.as_slice())
+}
+
+// The same of a kernel and up to two literals that are drawn.
 fn compare(alloc: Global, state: &mut u64) -> Result<bool, Fail> {
     let mut kernel = draw_kernel(alloc, state)?;
     let mut lits = draw_clause(alloc, state)?;
     lits.truncate(2);
-    let old = copy_of(alloc, kernel.stack())?;
-    let needed = needed_of(alloc, &old, lits.as_slice())?;
-    let mut ids = Vec::new(alloc);
-    restore_listed(alloc, &mut kernel, lits.as_slice(), &mut ids)?;
-    if !are_left(&old, needed.as_slice(), kernel.stack()) {
-        return Err("other entries are left")?;
-    }
-    if !are_listed(&old, needed.as_slice(), &kernel, ids.as_slice()) {
-        return Err("other clauses came")?;
-    }
-    let [touched, all] = counts(&old, needed.as_slice(), lits.as_slice());
-    Ok(touched < all && all < old.len())
+    compare_for(alloc, &mut kernel, lits.as_slice())
 }
 
 #[test]
@@ -277,7 +307,7 @@ fn tall(alloc: Global, step: u32) -> Result<Kernel, Fail> {
     Ok(kernel)
 }
 
-// The positive first literals of every second clause, or those that no witness touches.
+// The first variables of every second clause, as literals that its witness denies or holds.
 fn every_second(alloc: Global, step: u32, positive: bool) -> Result<Vec<Lit>, Fail> {
     let mut lits = Vec::new(alloc);
     for n in 0..TALL / 2 {
@@ -306,34 +336,52 @@ fn count_left(stack: &Stack, step: u32) -> usize {
     found
 }
 
+// Restores what these literals need, and answers the number of entries that left and of those that
+// are left, of these the ones that should be, and how many clauses are firm.
+fn restore_second(
+    alloc: Global,
+    kernel: &mut Kernel,
+    step: u32,
+    positive: bool,
+) -> Result<[u64; 4], Fail> {
+    let lits = every_second(alloc, step, positive)?;
+    let count = restore_for(alloc, kernel, lits.as_slice())?;
+    let left = kernel.stack().len() as u64;
+    let found = count_left(kernel.stack(), step) as u64;
+    Ok([count, left, found, kernel.store().firm_ids().len() as u64])
+}
+
 #[test]
 fn half_of_a_tall_stack_comes_back(rt: HostRuntime) -> Result<(), Fail> {
     let mut kernel = tall(rt.alloc(), 6)?;
-    assert_eq!(rt; kernel.stack().len(), 4000);
-    let clean = every_second(rt.alloc(), 6, false)?;
-    assert_eq!(rt; restore_for(rt.alloc(), &mut kernel, clean.as_slice())?, 0);
-    assert_eq!(rt; kernel.stack().len(), 4000);
-    let lits = every_second(rt.alloc(), 6, true)?;
-    assert_eq!(rt;
-        restore_for(rt.alloc(), &mut kernel, lits.as_slice())?,
-        2000
-    );
-    assert_eq!(rt;
-        [kernel.stack().len(), count_left(kernel.stack(), 6)],
-        [2000, 2000]
-    );
-    assert_eq!(rt; kernel.store().firm_ids().len(), 2000);
+    for (positive, found) in [
+        (false, [0u64, 4000, 1, 0]),
+        (true, [2000, 2000, 2000, 2000]),
+    ] {
+        assert_eq!(rt;
+            restore_second(rt.alloc(), &mut kernel, 6, positive)?,
+            found
+        );
+    }
     Ok(())
+}
+
+// Restores what a literal needs, and answers how many ids are listed, and how many entries are left.
+fn restore_chain(alloc: Global, kernel: &mut Kernel, number: i32) -> Result<[usize; 2], Fail> {
+    let mut ids = Vec::new(alloc);
+    restore_listed(alloc, kernel, &[lit(number)?], &mut ids)?;
+    Ok([ids.len(), kernel.stack().len()])
 }
 
 #[test]
 fn one_literal_brings_half_of_a_chain(rt: HostRuntime) -> Result<(), Fail> {
     let mut kernel = tall(rt.alloc(), 1)?;
-    assert_eq!(rt; kernel.stack().len(), 4000);
-    let mut ids = Vec::new(rt.alloc());
-    restore_listed(rt.alloc(), &mut kernel, &[lit(2001)?], &mut ids)?;
-    assert_eq!(rt; [ids.len(), kernel.stack().len()], [2000, 2000]);
-    restore_listed(rt.alloc(), &mut kernel, &[lit(2001)?], &mut ids)?;
-    assert_eq!(rt; [ids.len(), kernel.stack().len()], [0, 2000]);
+    for (number, found) in [
+        (-1, [0usize, 4000]),
+        (2001, [2000, 2000]),
+        (2001, [0, 2000]),
+    ] {
+        assert_eq!(rt; restore_chain(rt.alloc(), &mut kernel, number)?, found);
+    }
     Ok(())
 }

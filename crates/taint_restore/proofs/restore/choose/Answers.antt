@@ -1,4 +1,4 @@
-use Rattle.std.proofs.Common.{arith, rules}
+use Rattle.std.proofs.Common.{arith}
 use Rattle.taint_restore.proofs.Scanning.{scan_step, scan_end}
 use Rattle.taint_restore.proofs.restore.choose.Goals as goal
 

@@ -1,6 +1,4 @@
-use Rattle.std.proofs.Common.{refl, ◌≡◌, ◌||◌, ◌==◌, ℕ, arith}
-use Rattle.sat_terms.specs.Literal.{neg}
-use Rattle.witness_stack.specs.MarkSet.{marked}
+use Rattle.std.proofs.Common.{arith}
 use Rattle.taint_restore.proofs.Scanning.{mark_step}
 use Rattle.taint_restore.proofs.restore.mark_negations.Goals as goal
 

@@ -1,7 +1,7 @@
-use Rattle.std.proofs.Common.{◌-◌, refl, sym, ◌∙◌, arith}
+use Rattle.std.proofs.Common.{◌-◌, sym, ◌∙◌, arith}
 use Rattle.taint_restore.proofs.Walking.{Without-needed, Clean-unchosen}
 use Rattle.taint_restore.proofs.Scanning.{flag_at}
-use Rattle.taint_restore.proofs.Restoring.{restoring_none, chained_so_far, restore_clean, restore_step, stay_step, restored_all, seen, none_needed, room_all, room_taken, room_kept, room_here, on_err}
+use Rattle.taint_restore.proofs.Restoring.{restoring_none, chained_so_far, restore_clean, restore_step, stay_step, restored_all, seen, none_needed, room_all, room_taken, room_kept, on_err}
 use Rattle.taint_restore.proofs.restore.restore_listed.Goals as goal
 
 pub returns-then-is_clean-clause-needed : goal.returns-then-is_clean-clause-needed
