@@ -1,16 +1,12 @@
 -- The clauses stay the same up to order.
-use Rattle.std.proofs.Common.{◌≡◌, ◌≢◌, ℕ, suc, zero, ◌+◌, ◌<◌, Bool, true, false, cond, not, ◌&&◌, List, [], ◌∷◌, ◌++◌, length, get_or, count_by, Option, Some, None, IsSome, inl, inr, refl, sym, ap, ◌∙◌, arith}
+use Rattle.std.proofs.Common.{◌≡◌, ℕ, suc, zero, ◌+◌, ◌<◌, Bool, cond, List, [], ◌∷◌, length, refl, ◌∙◌, arith}
 use Rattle.std.specs.List.{remove}
-use Rattle.std.specs.Prelude.{is_some}
-use Rattle.std.proofs.lemmas.Bool.{cases_eq, false≢true}
 use Rattle.std.proofs.lemmas.List.Sums.{sum_by-cons}
-use Rattle.redundancy.specs.Redundancy.{Entry, entry, no_entry}
-use Rattle.clause_store.specs.Stored.{Stored, slot}
-use Rattle.clause_store.specs.FirmCount.{firm_count}
+use Rattle.redundancy.specs.Redundancy.{Entry, entry}
 use Rattle.clause_store.proofs.FirmCounts.{adding_counts}
 use Rattle.rule_kernel.specs.State.{State}
 use Rattle.rule_kernel.specs.Rules.{firm_clause, Restores}
-use Rattle.taint_restore.specs.Restored.{Restored, stack_count, clause_count, SameClauses}
+use Rattle.taint_restore.specs.Restored.{Restored, stack_count, SameClauses}
 use Rattle.taint_restore.specs.Restored.Restored.{none, one_more}
 
 -- an entry that leaves is counted no more

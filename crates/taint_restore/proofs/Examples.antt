@@ -1,11 +1,10 @@
 -- When a clause that is alone in a store may be parked.
-use Rattle.std.proofs.Common.{◌≡◌, ◌≢◌, ℕ, suc, zero, eqb, ◌<◌, ◌≤◌, Bool, true, false, List, [], ◌∷◌, length, get_or, take, Option, None, inl, inr, refl, sym, ap, ◌∙◌, arith}
-use Rattle.std.specs.Prelude.{AllPairs}
+use Rattle.std.proofs.Common.{◌≡◌, ℕ, suc, zero, eqb, ◌<◌, ◌≤◌, true, List, [], ◌∷◌, length, get_or, take, Option, None, inl, inr, refl, sym, ap, ◌∙◌, arith}
 use Rattle.std.proofs.lemmas.Bool.{cases_lt, cases_eq, false_from_ne_true, or_left, eq-eqb}
 use Rattle.sat_terms.specs.Literal.{has, neg, var_of}
 use Rattle.sat_terms.specs.Normal.{IsNormal}
 use Rattle.sat_terms.proofs.Literals.{neg-other, var_of-neg}
-use Rattle.sat_terms.proofs.Members.{has_place, has_taken, has_item}
+use Rattle.sat_terms.proofs.Members.{has_place, has_taken}
 use Rattle.redundancy.specs.Setting.{IsApart, set_true}
 use Rattle.redundancy.specs.Redundancy.{Witnesses}
 use Rattle.clause_store.specs.Stored.{Stored, slot, slot_lits, OthersTrue, Fills}

@@ -229,8 +229,8 @@ fn counts(old: &Entries, needed: &[bool], lits: &[Lit]) -> [usize; 2] {
     [touched, needed.iter().filter(|n| **n).count()]
 }
 
-// Restores what the literals need, and compares. Answers whether entries stay, and some are needed
-// by others alone.
+// Restores what the literals need, and compares. Answers whether entries stay, and some are
+// needed by others alone.
 fn compare_with(
     alloc: Global,
     kernel: &mut Kernel,
@@ -321,8 +321,8 @@ fn every_second(alloc: Global, step: u32, positive: bool) -> Result<Vec<Lit>, Fa
     Ok(lits)
 }
 
-// How many entries are left of every second clause, in their order, from the first on.
-fn count_left(stack: &Stack, step: u32) -> usize {
+// How many entries are rows of six whose first variables lie so far apart, from 1 on.
+fn count_rows(stack: &Stack, apart: u32) -> usize {
     let mut found = 0usize;
     let mut first = 1u32;
     for k in 0..stack.len() {
@@ -331,42 +331,43 @@ fn count_left(stack: &Stack, step: u32) -> usize {
                 found = found.saturating_add(1);
             }
         }
-        first = first.saturating_add(step).saturating_add(step);
+        first = first.saturating_add(apart);
     }
     found
 }
 
-// Restores what these literals need, and answers the number of entries that left and of those that
-// are left, of these the ones that should be, and how many clauses are firm.
+// Restores what these literals need. Answers how many entries left, how many are left, how many
+// of these are rows so far apart, and how many clauses are firm.
 fn restore_second(
     alloc: Global,
     kernel: &mut Kernel,
-    step: u32,
     positive: bool,
+    apart: u32,
 ) -> Result<[u64; 4], Fail> {
-    let lits = every_second(alloc, step, positive)?;
+    let lits = every_second(alloc, 6, positive)?;
     let count = restore_for(alloc, kernel, lits.as_slice())?;
     let left = kernel.stack().len() as u64;
-    let found = count_left(kernel.stack(), step) as u64;
-    Ok([count, left, found, kernel.store().firm_ids().len() as u64])
+    let rows = count_rows(kernel.stack(), apart) as u64;
+    Ok([count, left, rows, kernel.store().firm_ids().len() as u64])
 }
 
 #[test]
 fn half_of_a_tall_stack_comes_back(rt: HostRuntime) -> Result<(), Fail> {
     let mut kernel = tall(rt.alloc(), 6)?;
-    for (positive, found) in [
-        (false, [0u64, 4000, 1, 0]),
-        (true, [2000, 2000, 2000, 2000]),
+    for (positive, apart, found) in [
+        (false, 6, [0u64, 4000, 4000, 0]),
+        (true, 12, [2000, 2000, 2000, 2000]),
     ] {
         assert_eq!(rt;
-            restore_second(rt.alloc(), &mut kernel, 6, positive)?,
+            restore_second(rt.alloc(), &mut kernel, positive, apart)?,
             found
         );
     }
     Ok(())
 }
 
-// Restores what a literal needs, and answers how many ids are listed, and how many entries are left.
+// Restores what a literal needs, and answers how many ids are listed, and how many entries are
+// left.
 fn restore_chain(alloc: Global, kernel: &mut Kernel, number: i32) -> Result<[usize; 2], Fail> {
     let mut ids = Vec::new(alloc);
     restore_listed(alloc, kernel, &[lit(number)?], &mut ids)?;
