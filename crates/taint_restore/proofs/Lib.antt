@@ -1,0 +1,9 @@
+pub mod Walk
+pub mod Walking
+pub mod Scanning
+pub mod Counting
+pub mod Listing
+pub mod Knowing
+pub mod Standing
+pub mod Restoring
+pub mod Examples

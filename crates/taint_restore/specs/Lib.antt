@@ -1,0 +1,5 @@
+pub mod Needed
+pub mod Marking
+pub mod Restored
+pub mod Known
+pub mod Standing
