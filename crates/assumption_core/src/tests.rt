@@ -9,7 +9,7 @@ ghost use Rattle.assumption_core.specs.Core.{DecidesAssumed};
 
 use crate::cores::{CoreStart, core_of};
 use clause_store::store::Store;
-use rooted_scenes::scene::{Scene, is_false, lit, lits};
+use rooted_scenes::scene::{Scene, is_false, lit, lits, named};
 use rooted_trails::reading::is_decision;
 use sat_model::lists::{ClauseId, Lits};
 use sat_model::literal::Lit;
@@ -29,25 +29,6 @@ struct Row<'a> {
     falsified: i32,
     conflict: usize,
     core: &'a [i32],
-}
-
-// The clause of a number.
-fn named(ids: &[ClauseId], number: usize) -> Result<ClauseId, Fail> {
-    for (k, id) in ids.iter().enumerate() {
-        if k + 1 == number {
-            return Ok(*id);
-        }
-    }
-    Err("no such clause")?
-}
-
-// Puts a literal on the trail of a scene.
-fn put(scene: &mut Scene, ids: &[ClauseId], number: i32, reason: usize) -> Result<(), Fail> {
-    if reason == 0 {
-        return scene.decide(number);
-    }
-    let id = named(ids, reason)?;
-    scene.imply(number, id)
 }
 
 // Whether a literal, if it was decided, is an assumption.
@@ -126,7 +107,7 @@ fn core_from(alloc: Global, row: &Row) -> Result<Lits, Fail> {
         ids.push(scene.add(clause)?)?;
     }
     for (number, reason) in row.trail {
-        put(&mut scene, ids.as_slice(), *number, *reason)?;
+        scene.put(ids.as_slice(), *number, *reason)?;
     }
     let assumptions = lits(alloc, row.assumptions)?;
     if row.falsified != 0 {

@@ -97,7 +97,7 @@ pub fn analyze(
         tally.spend();
         return Err(AnalyzeStop::Conflicts(count));
     }
-    match learn(store, trail, scratch, conflict) {
+    match learn_first_uip(store, trail, scratch, conflict) {
         Ok(lesson) => {
             tally.rise(lesson.owed);
             Ok(lesson.learned)
@@ -129,7 +129,7 @@ fn begin(
 }
 
 // The clause that a conflict teaches.
-fn learn(
+fn learn_first_uip(
     store: &Store,
     trail: &Trail,
     scratch: &mut Scratch,

@@ -9,7 +9,7 @@ use crate::levels::highest;
 use crate::scratch::Scratch;
 use crate::tally::Tally;
 use clause_store::store::Store;
-use rooted_scenes::scene::{Scene, is_false, lit, lits};
+use rooted_scenes::scene::{Scene, is_false, lit, lits, named};
 use sat_model::lists::ClauseId;
 use sat_model::literal::Lit;
 use std::alloc::Global;
@@ -36,25 +36,6 @@ struct Row<'a> {
     owed: i32,
 }
 
-// The clause of a number.
-fn named(ids: &[ClauseId], number: usize) -> Result<ClauseId, Fail> {
-    for (k, id) in ids.iter().enumerate() {
-        if k + 1 == number {
-            return Ok(*id);
-        }
-    }
-    Err("no such clause")?
-}
-
-// Puts a literal on the trail of a scene.
-fn put(scene: &mut Scene, ids: &[ClauseId], number: i32, reason: usize) -> Result<(), Fail> {
-    if reason == 0 {
-        return scene.decide(number);
-    }
-    let id = named(ids, reason)?;
-    scene.imply(number, id)
-}
-
 // Makes the scene of a row.
 fn set_up(alloc: Global, row: &Row) -> Result<Conflict, Fail> {
     let mut scene = Scene::new(alloc, 50)?;
@@ -63,7 +44,7 @@ fn set_up(alloc: Global, row: &Row) -> Result<Conflict, Fail> {
         ids.push(scene.add(clause)?)?;
     }
     for (number, reason) in row.trail {
-        put(&mut scene, ids.as_slice(), *number, *reason)?;
+        scene.put(ids.as_slice(), *number, *reason)?;
     }
     let clause = named(ids.as_slice(), row.conflict)?;
     Ok(Conflict { scene, clause })

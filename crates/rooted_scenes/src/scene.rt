@@ -55,6 +55,16 @@ pub fn lits(alloc: Global, numbers: &[i32]) -> Result<Vec<Lit>, Fail> {
     Ok(lits)
 }
 
+/// The clause of a number: those of the list are numbered from 1 on.
+pub fn named(ids: &[ClauseId], number: usize) -> Result<ClauseId, Fail> {
+    for (k, id) in ids.iter().enumerate() {
+        if k + 1 == number {
+            return Ok(*id);
+        }
+    }
+    Err("no such clause")?
+}
+
 // Whether the variable of a literal is declared and has no value.
 fn is_open(trail: &Trail, lit: Lit) -> bool
     ensures { result ≡ true → (var_of lit ≤ trail.now.declared) × (value_on trail.now.steps lit ≡ None) }
@@ -159,5 +169,15 @@ impl Scene {
             return Ok(());
         }
         Err("the clause does not imply it")?
+    }
+
+    /// Puts a literal on the trail: decided where the number of its reason is 0, and else implied by
+    /// the clause of that number.
+    pub fn put(&mut self, ids: &[ClauseId], number: i32, reason: usize) -> Result<(), Fail> {
+        if reason == 0 {
+            return self.decide(number);
+        }
+        let id = named(ids, reason)?;
+        self.imply(number, id)
     }
 }

@@ -75,7 +75,7 @@ fn count(policy: &mut Policy, order: &mut Order, met: &[Lit], glue: u32) -> bool
 
 // Goes back to the highest level of a false clause, learns from it there, and assigns what that
 // asserts. Where the clause is false at the root, no assignment makes the stored clauses true.
-pub(crate) fn resolve(
+pub(crate) fn learn_from(
     alloc: Global,
     state: &mut Core,
     assumptions: &[Lit],
@@ -115,7 +115,7 @@ pub(crate) fn resolve(
                 state.scratch.met(),
                 learned.glue,
             );
-            learn(state, assumptions, learned)?;
+            assert_learned(state, assumptions, learned)?;
             state.trail.law_room();
             restart(state, assumptions, back);
             reduce(state, assumptions)?;
@@ -174,7 +174,7 @@ fn store_attached(
 
 // Stores and attaches a learned clause, goes back to its back level, and assigns the literal that
 // the tally owes.
-fn learn(state: &mut Core, assumptions: &[Lit], learned: Learned) -> Result<(), Memory>
+fn assert_learned(state: &mut Core, assumptions: &[Lit], learned: Learned) -> Result<(), Memory>
     requires ready { IsReady assumptions.now state.old }
     requires first { AssumesFirst assumptions.now state.old.trail.steps }
     requires normal { IsNormal state.old.scratch.lits }

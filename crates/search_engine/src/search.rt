@@ -16,7 +16,7 @@ ghost use Rattle.search_engine.specs.Searching.{IsReady, Keeps, CountsFrom, Foun
 ghost use Rattle.search_engine.specs.Turns.{IsBetweenTurns, Passed, KeepsCount, TurnIs};
 
 use crate::choice::choose;
-use crate::conflict::{Turn, resolve};
+use crate::conflict::{Turn, learn_from};
 use crate::cursor::Cursor;
 use crate::state::{Budget, Core, Found};
 use sat_model::literal::Lit;
@@ -41,7 +41,7 @@ fn take_turn(
     match state.watches.propagate(&state.store, &mut state.trail)? {
         Some(conflict) => {
             *cursor = Cursor::start();
-            resolve(alloc, state, assumptions, conflict)
+            learn_from(alloc, state, assumptions, conflict)
         }
         None => choose(alloc, state, assumptions, cursor),
     }

@@ -1,8 +1,8 @@
 use Rattle.search_engine.proofs.Looping.{propagates, ok_more, ok_always, propagated_stands, propagated_passed, propagated_turn, propagated_keeps}
 use Rattle.search_engine.proofs.search.take_turn.Goals as goal
 
-pub resolve-requires-clause-stands : goal.resolve-requires-clause-stands
-resolve-requires-clause-stands c =
+pub learn_from-requires-clause-stands : goal.learn_from-requires-clause-stands
+learn_from-requires-clause-stands c =
     let e = c.propagate.ensures in
     let p = propagates c.args.state.now c.propagate.new.self c.propagate.new.trail e.attached e.declared e.follows e.grown in
     propagated_stands c.args.assumptions.now c.args.state.now _ p c.requires.stands
@@ -23,10 +23,10 @@ pub returns-in-Some-clause-turn : goal.returns-in-Some-clause-turn
 returns-in-Some-clause-turn c =
     let e = c.propagate.ensures in
     let p = propagates c.args.state.now c.propagate.new.self c.propagate.new.trail e.attached e.declared e.follows e.grown in
-    ok_more c.resolve.result _ _ (propagated_turn c.args.assumptions.now c.args.state.now _ c.resolve.new.state p c.requires.stands.ready) c.resolve.ensures.turn
+    ok_more c.learn_from.result _ _ (propagated_turn c.args.assumptions.now c.args.state.now _ c.learn_from.new.state p c.requires.stands.ready) c.learn_from.ensures.turn
 
 pub returns-in-Some-clause-passed : goal.returns-in-Some-clause-passed
-returns-in-Some-clause-passed c = ok_always c.resolve.result _ (λ turn. c.start.ensures c.args.assumptions.now c.resolve.new.state)
+returns-in-Some-clause-passed c = ok_always c.learn_from.result _ (λ turn. c.start.ensures c.args.assumptions.now c.learn_from.new.state)
 
 pub returns-in-None-clause-turn : goal.returns-in-None-clause-turn
 returns-in-None-clause-turn c =

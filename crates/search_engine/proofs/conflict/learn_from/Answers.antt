@@ -7,7 +7,7 @@ use Rattle.conflict_analysis.proofs.Returns.{false_back, reaches_back, highest_r
 use Rattle.search_engine.proofs.Conflicts.{root_conflict, false_within, ready_back, keeps_back, first_back}
 use Rattle.search_engine.proofs.Orders.{orderly_back, orderly_picked}
 use Rattle.search_engine.proofs.Jumps.{jump_rises, jumped_back}
-use Rattle.search_engine.proofs.conflict.resolve.Goals as goal
+use Rattle.search_engine.proofs.conflict.learn_from.Goals as goal
 
 pub returns-then-at_root-clause-turn : goal.returns-then-at_root-clause-turn
 returns-then-at_root-clause-turn c =
@@ -28,20 +28,20 @@ pub analyze-answer-requires-clause-reaches : goal.analyze-answer-requires-clause
 analyze-answer-requires-clause-reaches c =
     reaches_back _ _ _ _ c.law_shape.ensures c.law_shape-2.ensures c.back_to.ensures.back c.requires.is_false (highest_reaches _ _ _ c.if-at_root.false (rw c.get.ensures.value at c.highest-top.ensures.attained))
 
-pub learn-requires-clause-ready : goal.learn-requires-clause-ready
-learn-requires-clause-ready c =
+pub assert_learned-requires-clause-ready : goal.assert_learned-requires-clause-ready
+assert_learned-requires-clause-ready c =
     let ready = c.requires.stands.ready in
     let back = c.back_to.ensures.back in
     let same = c.count-back.ensures.same in
     ready_back _ _ _ _ _ _ _ _ _ ready back c.cut.ensures.attached c.cut.ensures.declared (c.cut.ensures.follows _ _ _ ready.following back)
     (orderly_picked c.back_to.new.self c.count-back.new.order c.back_to.new.trail same (c.count-back.ensures.follows c.back_to.new.trail) (orderly_back _ _ _ _ _ back c.back_to.ensures.same c.back_to.ensures.follows ready.orderly)) (same.declared ∙ c.back_to.ensures.same.declared)
 
-pub learn-requires-clause-first : goal.learn-requires-clause-first
-learn-requires-clause-first c = first_back _ _ _ _ c.back_to.ensures.back c.requires.stands.first
+pub assert_learned-requires-clause-first : goal.assert_learned-requires-clause-first
+assert_learned-requires-clause-first c = first_back _ _ _ _ c.back_to.ensures.back c.requires.stands.first
 
 pub returns-in_ok-reduce-in-Ok-clause-turn : goal.returns-in_ok-reduce-in-Ok-clause-turn
 returns-in_ok-reduce-in-Ok-clause-turn c =
-    let learned = c.in_ok-learn-in-Ok.ensures in
+    let learned = c.in_ok-assert_learned-in-Ok.ensures in
     let again = c.restart.ensures in
     let less = c.reduce.ensures in
     let back = c.back_to.ensures.back in
@@ -49,8 +49,8 @@ returns-in_ok-reduce-in-Ok-clause-turn c =
     let dec = learned.keeps.declared ∙ back.declared in
     record {
       stands = less.stands;
-      falls = left_paced c.args.state.now.trail.declared c.reduce.new.state.trail.declared (restarts_left c.args.state.now.policy) (restarts_left c.learn.new.state.policy) (restarts_left c.reduce.new.state.policy)
-          c.args.state.now.trail c.learn.new.state.trail c.reduce.new.state.trail c.count-back.result
+      falls = left_paced c.args.state.now.trail.declared c.reduce.new.state.trail.declared (restarts_left c.args.state.now.policy) (restarts_left c.assert_learned.new.state.policy) (restarts_left c.reduce.new.state.policy)
+          c.args.state.now.trail c.assert_learned.new.state.trail c.reduce.new.state.trail c.count-back.result
           (less.keeps.declared ∙ again.keeps.declared ∙ dec) dec c.law_room-in-Ok.ensures.steps (rw policy c.count-back.ensures.left) (rw policy c.count-back.ensures.back)
           (less.left ∙ ap (λ p. restarts_left p) again.policy) (jump_rises _ _ (jumped_back _ _ _ _ back learned.jumped)) (λ h. less.trail ∙ again.stays h);
     }
@@ -62,7 +62,7 @@ returns-in_ok-reduce-in-Ok-clause-keeps c =
     let same = c.count-back.ensures.same in
     let mid = keeps_back c.args.assumptions.now c.args.state.now c.back_to.new.trail c.count-back.new.order c.count-back.new.policy c.cut.new.self c.analyze-answer.new.tally c.analyze-answer.new.scratch c.highest-top.result ready back c.cut.ensures.attached c.cut.ensures.declared (c.cut.ensures.follows _ _ _ ready.following back)
     (orderly_picked c.back_to.new.self c.count-back.new.order c.back_to.new.trail same (c.count-back.ensures.follows c.back_to.new.trail) (orderly_back _ _ _ _ _ back c.back_to.ensures.same c.back_to.ensures.follows ready.orderly)) (same.declared ∙ c.back_to.ensures.same.declared) in
-    keeps_more _ _ _ (keeps_more _ _ _ (keeps_more _ _ _ mid c.learn.ensures.keeps) c.restart.ensures.keeps) c.reduce.ensures.keeps
+    keeps_more _ _ _ (keeps_more _ _ _ (keeps_more _ _ _ mid c.assert_learned.ensures.keeps) c.restart.ensures.keeps) c.reduce.ensures.keeps
 
 pub returns-in_err-reduce-in-Ok-clause-keeps : goal.returns-in_err-reduce-in-Ok-clause-keeps
 returns-in_err-reduce-in-Ok-clause-keeps c =
@@ -71,16 +71,16 @@ returns-in_err-reduce-in-Ok-clause-keeps c =
     let same = c.count-back.ensures.same in
     let mid = keeps_back c.args.assumptions.now c.args.state.now c.back_to.new.trail c.count-back.new.order c.count-back.new.policy c.cut.new.self c.analyze-answer.new.tally c.analyze-answer.new.scratch c.highest-top.result ready back c.cut.ensures.attached c.cut.ensures.declared (c.cut.ensures.follows _ _ _ ready.following back)
     (orderly_picked c.back_to.new.self c.count-back.new.order c.back_to.new.trail same (c.count-back.ensures.follows c.back_to.new.trail) (orderly_back _ _ _ _ _ back c.back_to.ensures.same c.back_to.ensures.follows ready.orderly)) (same.declared ∙ c.back_to.ensures.same.declared) in
-    keeps_more _ _ _ (keeps_more _ _ _ (keeps_more _ _ _ mid c.learn.ensures.keeps) c.restart.ensures.keeps) c.reduce.ensures.keeps
+    keeps_more _ _ _ (keeps_more _ _ _ (keeps_more _ _ _ mid c.assert_learned.ensures.keeps) c.restart.ensures.keeps) c.reduce.ensures.keeps
 
-pub returns-in_err-learn-in-Ok-clause-keeps : goal.returns-in_err-learn-in-Ok-clause-keeps
-returns-in_err-learn-in-Ok-clause-keeps c =
+pub returns-in_err-assert_learned-in-Ok-clause-keeps : goal.returns-in_err-assert_learned-in-Ok-clause-keeps
+returns-in_err-assert_learned-in-Ok-clause-keeps c =
     let ready = c.requires.stands.ready in
     let back = c.back_to.ensures.back in
     let same = c.count-back.ensures.same in
     let mid = keeps_back c.args.assumptions.now c.args.state.now c.back_to.new.trail c.count-back.new.order c.count-back.new.policy c.cut.new.self c.analyze-answer.new.tally c.analyze-answer.new.scratch c.highest-top.result ready back c.cut.ensures.attached c.cut.ensures.declared (c.cut.ensures.follows _ _ _ ready.following back)
     (orderly_picked c.back_to.new.self c.count-back.new.order c.back_to.new.trail same (c.count-back.ensures.follows c.back_to.new.trail) (orderly_back _ _ _ _ _ back c.back_to.ensures.same c.back_to.ensures.follows ready.orderly)) (same.declared ∙ c.back_to.ensures.same.declared) in
-    keeps_more _ _ _ mid c.learn.ensures.keeps
+    keeps_more _ _ _ mid c.assert_learned.ensures.keeps
 
 pub returns-in-Err-Conflicts-clause-keeps : goal.returns-in-Err-Conflicts-clause-keeps
 returns-in-Err-Conflicts-clause-keeps c =

@@ -3,7 +3,7 @@ use Rattle.search_engine.proofs.Conflicts.{taught_by, owed_is, false_watched, ta
 use Rattle.search_engine.proofs.Freeing.{stored_keeps}
 use Rattle.search_engine.proofs.Keeping.{keeps_ready}
 use Rattle.search_engine.proofs.Orders.{orderly_back, orderly_longer}
-use Rattle.search_engine.proofs.conflict.learn.Goals as goal
+use Rattle.search_engine.proofs.conflict.assert_learned.Goals as goal
 
 pub store_attached-requires-clause-within : goal.store_attached-requires-clause-within
 store_attached-requires-clause-within c = rw c.learned.ensures (false_watched _ _ _ c.law_room.ensures c.requires.is_false c.requires.ready.watched)

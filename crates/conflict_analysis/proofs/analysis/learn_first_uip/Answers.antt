@@ -2,8 +2,8 @@ use Rattle.std.proofs.Common.{◌∙◌, ap}
 use Rattle.sat_terms.specs.Literal.{neg}
 use Rattle.trail_state.proofs.Places.{lit_read}
 use Rattle.conflict_analysis.proofs.Lessons.{IsLesson, lesson}
-use Rattle.conflict_analysis.proofs.analysis.learn.Goals as goal
-use Rattle.conflict_analysis.proofs.analysis.learn.Goals.{After-glue-glue}
+use Rattle.conflict_analysis.proofs.analysis.learn_first_uip.Goals as goal
+use Rattle.conflict_analysis.proofs.analysis.learn_first_uip.Goals.{After-glue-glue}
 
 taught : (c : After-glue-glue) → IsLesson c.args.store.now c.args.trail.now c.glue-glue.new.self.lits c.neg-owed.result c.highest-back_level.result
 taught c =
