@@ -1,13 +1,13 @@
 -- What was implied before some rules is implied after them, where no witness was on one of its variables.
-use Rattle.std.proofs.Common.{◌≡◌, ℕ, suc, zero, ◌%◌, Bool, true, false, not, eqb, ◌||◌, List, [], ◌∷◌, Option, Some, ◌⊎◌, inl, inr, refl, sym, ap, ◌∙◌, subst, arith}
+use Rattle.std.proofs.Common.{◌≡◌, ℕ, ◌%◌, Bool, true, false, not, eqb, List, [], ◌∷◌, inl, inr, refl, sym, ap, ◌∙◌, arith}
 use Rattle.std.proofs.lemmas.Bool.{cases_eq, false≢true, or_cases, false_from_ne_true, eqb-true}
-use Rattle.sat_terms.specs.Literal.{has, neg, var_of, pos_lit, neg_lit}
+use Rattle.sat_terms.specs.Literal.{has, var_of, pos_lit, neg_lit}
 use Rattle.sat_terms.specs.Truth.{Assignment, lit_true, clause_true, Implies}
 use Rattle.sat_terms.proofs.Literals.{var_of-pos_lit, var_of-neg_lit}
 use Rattle.sat_terms.proofs.Truths.{clause_true-from, clause_true-some, lit_true-even, lit_true-odd}
 use Rattle.redundancy.specs.Setting.{set_true}
 use Rattle.redundancy.proofs.Setting.{set_true-in}
-use Rattle.clause_store.specs.Stored.{Stored, slot, slot_lits, is_firm, FirmTrue}
+use Rattle.clause_store.specs.Stored.{slot, slot_lits, FirmTrue}
 use Rattle.clause_store.proofs.Slots.{FirmTrue-from, FirmTrue-before, OthersTrue-freed}
 use Rattle.rule_kernel.specs.State.{State}
 use Rattle.pass_terms.specs.Ruled.{Uses, Ruled}

@@ -1,14 +1,14 @@
 -- What the walk through all literals finds.
-use Rattle.std.proofs.Common.{◌≡◌, ◌≢◌, ℕ, suc, zero, ◌+◌, ◌-◌, ◌*◌, ◌<◌, ◌≤◌, Bool, true, false, List, [], ◌∷◌, ◌++◌, length, get_or, replicate, inl, inr, ◌⊎◌, refl, sym, ap, ◌∙◌, subst, arith}
-use Rattle.std.proofs.lemmas.Bool.{false≢true, cases_eq, cases_lt}
+use Rattle.std.proofs.Common.{◌≡◌, ◌≢◌, ℕ, suc, zero, ◌+◌, ◌<◌, ◌≤◌, Bool, List, [], ◌∷◌, length, replicate, inl, inr, refl, sym, ap, ◌∙◌, subst, arith}
+use Rattle.std.proofs.lemmas.Bool.{cases_lt}
 use Rattle.std.proofs.lemmas.List.{length-replicate, get_or-replicate, get_or_past}
-use Rattle.sat_terms.specs.Literal.{has, var_of, IsLiteral}
+use Rattle.sat_terms.specs.Literal.{IsLiteral}
 use Rattle.equiv_subst.specs.declared.walk.Mark.{Mark}
 use Rattle.equiv_subst.specs.declared.walk.Mark.TheVariants.{Fresh, Open, Done}
 use Rattle.equiv_subst.specs.declared.pairs.Pair.{Pair}
-use Rattle.equiv_subst.specs.Implications.{Leads, Joined, Arc, arcs, size, IsGraph, IsArc, AllFrozen}
+use Rattle.equiv_subst.specs.Implications.{Leads, Arc, arcs, size, IsGraph}
 use Rattle.equiv_subst.specs.Implications.Leads.{here, more}
-use Rattle.equiv_subst.specs.Walk.{Way, mark, at, root, pair, IsWay, fresh_weight, weigh, fresh, unseen, IsFew, Walks, StayMet, Halted, Exploring, Explored, Found, start}
+use Rattle.equiv_subst.specs.Walk.{Way, mark, IsWay, unseen, Walks, Halted, Explored, Found, start}
 use Rattle.equiv_subst.proofs.Leading.{leads_falls}
 use Rattle.equiv_subst.proofs.Walking.{weigh_all, sum_upto}
 

@@ -1,7 +1,7 @@
 -- Laws of tables of arcs.
-use Rattle.std.proofs.Common.{◌≡◌, ◌≢◌, ℕ, suc, zero, ◌+◌, ◌*◌, ◌<◌, ◌≤◌, Bool, true, false, eqb, List, [], ◌∷◌, ◌++◌, length, get_or, take, set, inl, inr, ◌⊎◌, refl, sym, ap, ◌∙◌, subst, arith, Option, Result, Ok, Err, OnOk}
-use Rattle.std.proofs.lemmas.Bool.{false≢true, cases_eq, cases_lt, or_cases, or_left, or_right, eq-eqb, eqb-true}
-use Rattle.std.proofs.lemmas.List.{length_push, length-set, length-append, get_or-set_same, get_or-set_other, get_or_past, get_or_default, get_or-take, length-take-le, take_all}
+use Rattle.std.proofs.Common.{◌≡◌, ◌≢◌, ℕ, suc, zero, ◌+◌, ◌<◌, ◌≤◌, true, false, eqb, List, [], ◌∷◌, ◌++◌, length, get_or, take, set, inl, inr, ◌⊎◌, refl, sym, ap, ◌∙◌, subst, arith, Option, Result, Ok, Err, OnOk}
+use Rattle.std.proofs.lemmas.Bool.{false≢true, cases_eq, cases_lt, or_cases, or_left, eq-eqb, eqb-true}
+use Rattle.std.proofs.lemmas.List.{length_push, get_or-set_same, get_or-set_other, get_or_default, get_or-take, length-take-le, take_all}
 use Rattle.sat_terms.proofs.Members.{has-append_left, has-append_right, has-append_cases}
 use Rattle.sat_terms.specs.Literal.{has, neg}
 use Rattle.sat_terms.specs.Normal.{IsNormal}
@@ -10,7 +10,7 @@ use Rattle.clause_store.specs.Stored.{Stored, slot, slot_lits, is_firm}
 use Rattle.clause_store.specs.Listing.{HasEachOnce, firm_at}
 use Rattle.pass_terms.specs.Firm.{firm}
 use Rattle.equiv_subst.proofs.Counting.{place_of, count_ids, listed}
-use Rattle.equiv_subst.specs.Implications.{Leads, Arc, arcs, size, IsGraph, Gains, IsPairOf, Says, Implication, Adds, Shows, IsGraphOf}
+use Rattle.equiv_subst.specs.Implications.{Arc, arcs, size, IsGraph, Gains, IsPairOf, Says, Adds, Shows, IsGraphOf}
 use Rattle.equiv_subst.proofs.Leading.{has_at_place}
 
 pub record Longer (old new : List (List ℕ)) : Type 0 where

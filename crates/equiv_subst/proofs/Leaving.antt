@@ -1,13 +1,13 @@
 -- Laws of variables that no longer stand in firm clauses.
-use Rattle.std.proofs.Common.{◌≡◌, ◌≢◌, ℕ, suc, zero, ◌+◌, ◌<◌, ◌≤◌, Bool, true, false, cond, not, eqb, ◌||◌, List, [], ◌∷◌, length, get_or, Option, Some, None, ◌⊎◌, inl, inr, refl, sym, ap, ◌∙◌, subst, arith}
+use Rattle.std.proofs.Common.{◌≡◌, ℕ, suc, zero, ◌+◌, ◌≤◌, Bool, true, false, cond, not, eqb, List, [], ◌∷◌, length, Option, Some, None, ◌⊎◌, inl, inr, refl, ap, subst, arith}
 use Rattle.std.specs.List.{list_any, count_by}
-use Rattle.std.proofs.lemmas.Bool.{cases_Bool, false≢true, or_cases, or_left, or_right, false_from_ne_true, not-true, eqb-true, eq-eqb}
+use Rattle.std.proofs.lemmas.Bool.{cases_Bool, false≢true, or_cases, or_left, or_right, eqb-true, eq-eqb}
 use Rattle.std.proofs.lemmas.List.Sums.{sum_by-cons, count_by-le-length}
-use Rattle.sat_terms.specs.Literal.{has, var_of, pos_lit, neg_lit}
+use Rattle.sat_terms.specs.Literal.{has, var_of}
 use Rattle.clause_store.specs.Stored.{Stored, keeps_firm, slot, slot_lits, is_firm}
 use Rattle.pass_terms.specs.Firm.{firm, stands}
 use Rattle.rule_kernel.specs.Changes.{mentions}
-use Rattle.equiv_subst.specs.Clauses.{has_empty, with_var, with_vars, vars, gone}
+use Rattle.equiv_subst.specs.Clauses.{with_var, with_vars, vars, gone}
 use Rattle.pass_terms.proofs.Standing.{lit_of}
 
 -- a firm clause that passes a test, by its id

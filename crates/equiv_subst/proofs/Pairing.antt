@@ -1,10 +1,10 @@
 -- Laws of the pairs of a component.
-use Rattle.std.proofs.Common.{◌≡◌, ◌≢◌, ℕ, suc, zero, ◌+◌, ◌<◌, ◌≤◌, Bool, true, false, eqb, List, [], ◌∷◌, ◌++◌, length, get_or, inl, inr, ◌⊎◌, refl, sym, ap, ◌∙◌, subst, arith}
-use Rattle.std.proofs.lemmas.Bool.{false≢true, cases_eq, cases_lt}
+use Rattle.std.proofs.Common.{◌≡◌, ◌≢◌, ℕ, ◌+◌, ◌<◌, ◌≤◌, Bool, true, List, [], ◌∷◌, ◌++◌, length, get_or, inl, inr, refl, sym, ap, ◌∙◌, subst, arith}
+use Rattle.std.proofs.lemmas.Bool.{cases_eq, cases_lt}
 use Rattle.std.proofs.lemmas.List.{length_push, get_or_default}
 use Rattle.sat_terms.specs.Literal.{has, var_of}
 use Rattle.equiv_subst.specs.declared.pairs.Pair.{Pair}
-use Rattle.equiv_subst.specs.Walk.{pair, no_pair, IsFit, IsPairFor, AreFrom, FrontFrozen, AreFrozen}
+use Rattle.equiv_subst.specs.Walk.{no_pair, IsPairFor, AreFrom, FrontFrozen, AreFrozen}
 use Rattle.equiv_subst.proofs.Leading.{has_place, has_at_place, push_cases}
 
 -- what holds after the first n members

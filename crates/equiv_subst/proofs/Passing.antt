@@ -1,20 +1,18 @@
 -- What the pass keeps from round to round.
-use Rattle.std.proofs.Common.{◌≡◌, ◌≢◌, ℕ, suc, zero, ◌+◌, ◌-◌, ◌*◌, ◌/◌, ◌%◌, ◌<◌, ◌≤◌, Bool, true, false, not, eqb, ◌||◌, List, [], ◌∷◌, ◌++◌, length, get_or, Option, Some, None, Result, Ok, Err, inl, inr, ◌⊎◌, refl, sym, ap, ◌∙◌, subst, arith, count_by}
-use Rattle.std.proofs.lemmas.Bool.{false≢true, cases_Bool, cases_eq, cases_lt, false_from_ne_true, or_cases, or_left, or_right, eqb-true, eq-eqb, ne_eqb}
+use Rattle.std.proofs.Common.{◌≡◌, ◌≢◌, ℕ, suc, zero, ◌+◌, ◌-◌, ◌*◌, ◌/◌, ◌%◌, ◌<◌, ◌≤◌, Bool, true, false, not, eqb, List, [], ◌∷◌, length, get_or, Option, inl, inr, refl, sym, ap, ◌∙◌, subst, arith, count_by}
+use Rattle.std.proofs.lemmas.Bool.{false≢true, cases_Bool, cases_eq, cases_lt, false_from_ne_true, or_cases, eqb-true, eq-eqb, ne_eqb}
 use Rattle.std.proofs.lemmas.List.{get_or_default}
 use Rattle.std.proofs.Math.Nat.{mul-le-mul_left}
 use Rattle.sat_terms.specs.Literal.{has, neg, var_of, pos_lit}
-use Rattle.sat_terms.proofs.Literals.{neg-neg, var_of-neg, same_var, var_of-pos_lit}
-use Rattle.sat_terms.specs.Normal.{IsNormal}
-use Rattle.sat_terms.specs.Truth.{Assignment, lit_true, clause_true, Implies}
+use Rattle.sat_terms.proofs.Literals.{var_of-neg, same_var, var_of-pos_lit}
+use Rattle.sat_terms.specs.Truth.{lit_true, Implies}
 use Rattle.sat_terms.proofs.Truths.{lit_true-neg}
 use Rattle.clause_store.specs.Stored.{Stored, slot, slot_lits, is_firm, FirmTrue}
 use Rattle.rule_kernel.specs.State.{State}
-use Rattle.rule_kernel.specs.Rules.{firm_clause, AddsImplied}
+use Rattle.rule_kernel.specs.Rules.{AddsImplied}
 use Rattle.pass_terms.specs.Firm.{firm, stands}
-use Rattle.rule_kernel.specs.Changes.{mentions}
 use Rattle.equiv_subst.specs.Clauses.{has_empty, vars, gone, Holds}
-use Rattle.pass_terms.specs.Ruled.{IsKnown, Uses, Ruled}
+use Rattle.pass_terms.specs.Ruled.{Ruled}
 use Rattle.pass_terms.specs.Ruled.Uses.{implied}
 use Rattle.pass_terms.specs.Ruled.Ruled.{none, more}
 use Rattle.pass_terms.proofs.Standing.{stands_of, stands_from, mentions_lit, lit_of}
@@ -24,10 +22,10 @@ use Rattle.pass_terms.proofs.Ruling.{ruled_trans, ruled_weaken, ruled_stands, ru
 use Rattle.equiv_subst.proofs.Backward.{still_implied}
 use Rattle.equiv_subst.proofs.Leaving.{some_of, some_from, has-vars, gone_le, gone_less, gone_most}
 use Rattle.equiv_subst.specs.declared.pairs.Pair.{Pair}
-use Rattle.equiv_subst.specs.Implications.{Leads, Joined, Arc, arcs, size, IsGraphOf, Implication, Says, NoEquivalents, AllFrozen}
-use Rattle.equiv_subst.specs.Walk.{pair, no_pair, AreJoined, AreFit, IsFit, Found, Halted}
-use Rattle.equiv_subst.specs.Replacing.{all_but, Replaced}
-use Rattle.equiv_subst.specs.Pass.{IsFixpoint, IsEquivalent, AreEquivalent, Equivalences, Tried, Covers, Advanced, Exhausted, WentOn, CameFull, ReachesLimit}
+use Rattle.equiv_subst.specs.Implications.{Joined, Arc, size, IsGraphOf, Implication}
+use Rattle.equiv_subst.specs.Walk.{pair, no_pair, Found, Halted}
+use Rattle.equiv_subst.specs.Replacing.{all_but}
+use Rattle.equiv_subst.specs.Pass.{IsFixpoint, AreEquivalent, Equivalences, Tried, Covers, Advanced, Exhausted, WentOn, CameFull, ReachesLimit}
 use Rattle.equiv_subst.specs.Pass.Tried.{left, done}
 use Rattle.equiv_subst.proofs.Leading.{leads_map}
 use Rattle.equiv_subst.proofs.Finding.{arc_into}

@@ -1,26 +1,25 @@
 -- Laws of clauses in which a literal is replaced.
-use Rattle.std.proofs.Common.{◌≡◌, ◌≢◌, ℕ, suc, zero, ◌+◌, ◌-◌, ◌<◌, ◌≤◌, Bool, true, false, cond, not, eqb, ◌&&◌, ◌||◌, List, [], ◌∷◌, ◌++◌, length, get_or, map, Option, Some, None, Result, Ok, Err, IfOk, OnOk, OnErr, inl, inr, ◌⊎◌, refl, sym, ap, ◌∙◌, subst, arith, is_lt, nat_cmp, count_by}
+use Rattle.std.proofs.Common.{◌≡◌, ◌≢◌, ℕ, ◌+◌, ◌<◌, ◌≤◌, Bool, true, false, cond, not, eqb, List, [], ◌∷◌, get_or, Option, Some, None, Result, Ok, Err, IfOk, OnOk, OnErr, inl, inr, ◌⊎◌, refl, sym, ap, ◌∙◌, subst, arith, is_lt, nat_cmp, count_by}
 use Rattle.std.proofs.lemmas.Bool.Decides.{nat_tests}
-use Rattle.std.proofs.lemmas.Bool.{false≢true, cases_Bool, cases_eq, cases_lt, false_from_ne_true, or_cases, or_left, or_right, or_parts, or_from, and_parts, and_from, eqb-true, eq-eqb, ne_eqb}
-use Rattle.sat_terms.specs.Literal.{has, neg, var_of, pos_lit, neg_lit}
+use Rattle.std.proofs.lemmas.Bool.{false≢true, cases_Bool, cases_eq, cases_lt, false_from_ne_true, or_cases, or_left, or_right, and_parts, and_from, eqb-true, eq-eqb, ne_eqb}
+use Rattle.sat_terms.specs.Literal.{has, neg, var_of}
 use Rattle.sat_terms.specs.Normal.{IsNormal}
 use Rattle.sat_terms.specs.Truth.{Assignment, lit_true, clause_true, Implies}
 use Rattle.sat_terms.proofs.Literals.{neg-neg, neg-other, var_of-neg, same_var}
 use Rattle.sat_terms.proofs.Truths.{clause_true-from, clause_true-some, lit_true-neg}
-use Rattle.normal_form.specs.Forms.{IsFormOf, IsTautology, SameLits}
+use Rattle.normal_form.specs.Forms.{IsFormOf, IsTautology}
 use Rattle.normal_form.proofs.FormTruths.{true_same, true_back, tautology_true}
-use Rattle.redundancy.specs.Setting.{IsApart, set_true}
-use Rattle.redundancy.proofs.Setting.{set_true-in, set_true-out, clause_true-kept}
+use Rattle.redundancy.specs.Setting.{set_true}
+use Rattle.redundancy.proofs.Setting.{set_true-out, clause_true-kept}
 use Rattle.redundancy.specs.Redundancy.{Witnesses}
-use Rattle.clause_store.specs.Stored.{Stored, slot, slot_lits, is_firm, keeps_firm, SlotTrue, FirmTrue, OthersTrue, Fills, Frees}
-use Rattle.clause_store.proofs.Slots.{OthersTrue-from}
+use Rattle.clause_store.specs.Stored.{Stored, slot, slot_lits, is_firm, SlotTrue, FirmTrue, OthersTrue, Fills, Frees}
 use Rattle.sat_model.specs.declared.memory.Memory.{Memory}
 use Rattle.rule_kernel.specs.State.{State}
 use Rattle.rule_kernel.specs.Rules.{firm_clause, AddsImplied, DropsImplied, Parks}
 use Rattle.pass_terms.specs.Firm.{firm, stands}
 use Rattle.rule_kernel.specs.Changes.{mentions}
 use Rattle.equiv_subst.specs.Clauses.{Holds}
-use Rattle.pass_terms.specs.Ruled.{IsKnown, Uses, Ruled}
+use Rattle.pass_terms.specs.Ruled.{IsKnown, Ruled}
 use Rattle.pass_terms.specs.Ruled.Uses.{implied, dropped, parked}
 use Rattle.pass_terms.specs.Ruled.Ruled.{none, more}
 use Rattle.pass_terms.proofs.Standing.{stands_of, stands_from, mentions_lit, lit_of}
@@ -29,9 +28,9 @@ use Rattle.witness_stack.proofs.Rows.{apart_one}
 use Rattle.equiv_subst.proofs.Counting.{one_if, count_filled, count_freed, count_two, count_three, count_le}
 use Rattle.equiv_subst.specs.Implications.{IsPairOf, Says, Implication, Leads}
 use Rattle.equiv_subst.specs.Implications.Leads.{here, more as further}
-use Rattle.equiv_subst.specs.Replacing.{always, all_but, rename, renamed, AreTied, about, KeepsFirm, NoMoreHolds, Renames, Renamed, Ties, Cleared, Stopped, TiedBy, IsReady, RanOut, Parked, Replaced}
+use Rattle.equiv_subst.specs.Replacing.{always, all_but, rename, renamed, AreTied, about, KeepsFirm, Renames, Renamed, Ties, Cleared, Stopped, TiedBy, IsReady, RanOut, Parked, Replaced}
 use Rattle.equiv_subst.specs.Walk.{Halted}
-use Rattle.equiv_subst.proofs.Leading.{has_place, has_at_place}
+use Rattle.equiv_subst.proofs.Leading.{has_place}
 use Rattle.equiv_subst.proofs.Graphs.{pair_cases}
 
 -- the literals of a binary clause

@@ -1,18 +1,18 @@
 -- What a turn of the walk keeps and uses up.
-use Rattle.std.proofs.Common.{◌≡◌, ◌≢◌, ℕ, suc, zero, ◌+◌, ◌-◌, ◌*◌, ◌<◌, ◌≤◌, ◌^◌, Bool, true, false, eqb, List, [], ◌∷◌, ◌++◌, length, get_or, take, drop, set, inl, inr, ◌⊎◌, refl, sym, ap, ◌∙◌, subst, arith}
-use Rattle.std.proofs.lemmas.Bool.{false≢true, cases_Bool, cases_eq, cases_lt, false_from_ne_true, or_cases, or_parts, or_left, or_right, eqb-true, eq-eqb, ne_eqb}
-use Rattle.std.proofs.lemmas.List.{get_or-take, get_or-drop, length-take-le, length-drop, length-append, length-set, length_push, get_or_append_left, get_or-append_right, get_or-set_same, get_or-set_other, get_or_default, get_or_past, take_more, take_all, take_rest}
-use Rattle.sat_terms.specs.Literal.{has, var_of, IsLiteral}
+use Rattle.std.proofs.Common.{◌≡◌, ◌≢◌, ℕ, suc, ◌+◌, ◌-◌, ◌<◌, ◌≤◌, Bool, true, false, eqb, List, [], ◌∷◌, ◌++◌, length, get_or, take, drop, set, inl, inr, refl, sym, ap, ◌∙◌, subst, arith}
+use Rattle.std.proofs.lemmas.Bool.{false≢true, cases_eq, cases_lt, false_from_ne_true, or_cases, or_left, eqb-true, eq-eqb}
+use Rattle.std.proofs.lemmas.List.{get_or-take, get_or-drop, length-take-le, length-drop, length-append, length-set, length_push, get_or_append_left, get_or-append_right, get_or-set_same, get_or-set_other, get_or_default, get_or_past, take_more, take_rest}
+use Rattle.sat_terms.specs.Literal.{has, var_of}
 use Rattle.sat_terms.proofs.Members.{has-append_left, has-append_right, has-append_cases}
 use Rattle.equiv_subst.specs.declared.walk.Mark.{Mark}
 use Rattle.equiv_subst.specs.declared.walk.Mark.TheVariants.{Fresh, Open, Done}
 use Rattle.equiv_subst.specs.declared.walk.Root.{Root}
 use Rattle.equiv_subst.specs.declared.pairs.Pair.{Pair}
-use Rattle.equiv_subst.specs.Implications.{Leads, Joined, Arc, arcs, size, IsGraph, IsArc, AllFrozen}
-use Rattle.equiv_subst.specs.Walk.{Way, mark, at, root, no_root, pair, no_pair, Seen, IsWay, Numbers, Marks, OnPath, fresh_weight, weigh, fresh, unseen, IsFew, Merges, meeting, Closes, Looks, AreJoined, AreSettled, AreFit, AreFrom, AreFrozen, Walks, StayMet, Turned, Halted, Exploring, Explored, Found, start}
+use Rattle.equiv_subst.specs.Implications.{Leads, Arc, arcs, IsGraph}
+use Rattle.equiv_subst.specs.Walk.{Way, mark, at, root, no_root, pair, IsWay, Numbers, Marks, OnPath, fresh_weight, weigh, unseen, Merges, meeting, Closes, Looks, AreJoined, AreSettled, AreFit, AreFrom, AreFrozen, Walks, StayMet, Turned, Halted, Exploring}
 use Rattle.equiv_subst.specs.Walk.Looks.{fresh_one, open_one, done_one}
 use Rattle.equiv_subst.proofs.Leading.{has_place, has_at_place}
-use Rattle.equiv_subst.proofs.Walking.{shut, looked_done, looked_open, met, component, to_work, last_root, weigh_met, weigh_same}
+use Rattle.equiv_subst.proofs.Walking.{shut, looked_done, looked_open, met, component, to_work, last_root, weigh_met}
 use Rattle.equiv_subst.proofs.Pairing.{has_read}
 
 -- one more literal was marked

@@ -1,13 +1,10 @@
 -- A literal is replaced by another one that it is tied to.
-use Rattle.std.specs.Prelude.{◌≡◌, ◌≢◌, ℕ, ◌+◌, ◌<◌, ◌≤◌, ◌==◌, Bool, true, false, ◌&&◌, if◌then◌else◌, List, [], ◌∷◌, length, map, Option, count_by}
-use Rattle.sat_terms.specs.Literal.{has, neg, var_of}
-use Rattle.sat_terms.specs.Truth.{Implies}
-use Rattle.clause_store.specs.Stored.{Stored, slot, slot_lits, is_firm, FirmTrue}
-use Rattle.rule_kernel.specs.State.{State}
+use Rattle.std.specs.Prelude.{◌≡◌, ◌≢◌, ℕ, ◌+◌, ◌≤◌, ◌==◌, Bool, true, false, ◌&&◌, if◌then◌else◌, List, map, Option, count_by}
+use Rattle.sat_terms.specs.Literal.{neg, var_of}
+use Rattle.clause_store.specs.Stored.{Stored, slot, slot_lits, is_firm}
 use Rattle.pass_terms.specs.Firm.{firm, stands}
 use Rattle.rule_kernel.specs.Changes.{mentions}
 use Rattle.equiv_subst.specs.Clauses.{Holds}
-use Rattle.pass_terms.specs.Ruled.{Ruled}
 use Rattle.equiv_subst.specs.Implications.{Says}
 
 -- no variable is free to be a witness

@@ -463,6 +463,18 @@ fn compare(
     Ok(())
 }
 
+// Adds some clauses that are drawn, and learns one of one literal.
+fn draw_clauses(alloc: Global, draw: &mut Draw, kernel: &mut Kernel) -> Result<(), Fail> {
+    for _ in 0..draw.below(8) {
+        let lits = draw.literals(alloc)?;
+        add(alloc, kernel, lits.as_slice())?;
+    }
+    if let Some(form) = normal_form(alloc, &[draw.literal()?])? {
+        kernel.learn(form.as_slice(), 1)?;
+    }
+    Ok(())
+}
+
 // Draws a kernel with some frozen variables, and runs the pass with a small limit and with an
 // ample one; then adds clauses where they are clean, and runs it again.
 fn compare_drawn(alloc: Global, seed: u64, tally: &mut Tally) -> Result<(), Fail> {
@@ -473,11 +485,7 @@ fn compare_drawn(alloc: Global, seed: u64, tally: &mut Tally) -> Result<(), Fail
         frozen.freeze(draw.literal()?.var())?;
     }
     for limit in [0, draw.below(40) as u64, 1000] {
-        for _ in 0..draw.below(8) {
-            let lits = draw.literals(alloc)?;
-            add(alloc, &mut kernel, lits.as_slice())?;
-        }
-        kernel.learn(&[draw.literal()?], 1)?;
+        draw_clauses(alloc, &mut draw, &mut kernel)?;
         compare(alloc, &mut kernel, &frozen, limit, tally)?;
     }
     Ok(())

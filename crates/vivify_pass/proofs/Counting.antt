@@ -1,8 +1,8 @@
 -- Laws of sums over ids, and of the ids of firm clauses.
-use Rattle.std.proofs.Common.{◌≡◌, ℕ, suc, zero, ◌+◌, ◌<◌, ◌≤◌, Bool, true, false, List, [], ◌∷◌, length, get_or, Option, Some, None, inl, inr, refl, sym, ap, ◌∙◌, arith}
+use Rattle.std.proofs.Common.{◌≡◌, ℕ, suc, zero, ◌+◌, ◌<◌, Bool, true, false, List, [], ◌∷◌, length, get_or, Option, None, inl, inr, refl, sym, ◌∙◌, arith}
 use Rattle.std.proofs.lemmas.Bool.{cases_Bool, false≢true}
-use Rattle.clause_store.specs.Stored.{Stored, slot, is_firm}
-use Rattle.clause_store.specs.Listing.{times, HasEachOnce, firm_at}
+use Rattle.clause_store.specs.Stored.{Stored, slot}
+use Rattle.clause_store.specs.Listing.{times, HasEachOnce}
 use Rattle.clause_store.proofs.Counts.{times_at, times_place}
 
 -- a sum over the numbers below n

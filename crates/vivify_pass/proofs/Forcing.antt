@@ -1,14 +1,13 @@
 -- Laws of what unit propagation makes true.
-use Rattle.std.proofs.Common.{◌≡◌, ◌≢◌, ℕ, suc, zero, ◌+◌, ◌<◌, ◌≤◌, Bool, true, false, not, eqb, ◌||◌, List, [], ◌∷◌, ◌++◌, length, map, Option, inl, inr, ◌⊎◌, refl, sym, ap, ◌∙◌, subst, arith}
+use Rattle.std.proofs.Common.{◌≡◌, ℕ, ◌+◌, ◌≤◌, true, false, not, eqb, List, [], ◌∷◌, ◌++◌, length, Option, inl, inr, refl, sym, ap, ◌∙◌, subst, arith}
 use Rattle.std.proofs.lemmas.Bool.{false≢true, cases_Bool, cases_eq, or_cases, or_left, or_right, or_parts, eqb-true, eq-eqb}
 use Rattle.std.proofs.lemmas.List.{append-nil, append_assoc, length-append}
 use Rattle.sat_terms.specs.Literal.{has, neg}
-use Rattle.sat_terms.specs.Truth.{Assignment, lit_true, clause_true, Implies}
+use Rattle.sat_terms.specs.Truth.{Assignment, lit_true, clause_true}
 use Rattle.sat_terms.proofs.Literals.{neg-neg}
 use Rattle.sat_terms.proofs.Truths.{clause_true-from, clause_true-some, lit_true-neg}
-use Rattle.sat_terms.proofs.Members.{has-append_left, has-append_right, has-append_cases}
 use Rattle.clause_store.specs.Stored.{Stored, slot, slot_lits, is_firm, FirmTrue}
-use Rattle.vivify_pass.specs.Rule.{Forced, Fails, negs, IsOpen, Stops, Vivifies, Makes, IsCalm, Calm, ResultIsImplied, CalmIsNotShortened, NoneCame, CalmStays}
+use Rattle.vivify_pass.specs.Rule.{Forced, Fails, negs, Stops, Vivifies, Calm, ResultIsImplied, CalmIsNotShortened, NoneCame, CalmStays}
 use Rattle.vivify_pass.specs.Rule.Forced.{start, unit}
 
 -- a literal that is forced is true wherever the given ones and the firm clauses are

@@ -1,14 +1,14 @@
 -- The trail and what unit propagation makes true are the same.
-use Rattle.std.proofs.Common.{◌≡◌, ◌≢◌, ℕ, suc, zero, ◌+◌, ◌<◌, ◌≤◌, Bool, true, false, not, eqb, ◌||◌, List, [], ◌∷◌, ◌++◌, length, get_or, cond, take, map, Option, Some, None, inl, inr, ◌⊎◌, refl, sym, ap, ◌∙◌, subst, arith}
-use Rattle.std.proofs.lemmas.Bool.{false≢true, cases_Bool, cases_eq, cases_lt, or_cases, or_left, or_right, eqb-true, eq-eqb}
+use Rattle.std.proofs.Common.{◌≡◌, ◌≢◌, ℕ, suc, zero, ◌<◌, ◌≤◌, Bool, true, false, eqb, List, [], ◌∷◌, ◌++◌, length, get_or, cond, take, Option, Some, None, inl, inr, refl, sym, ap, ◌∙◌, subst, arith}
+use Rattle.std.proofs.lemmas.Bool.{false≢true, cases_Bool, cases_eq, cases_lt, or_cases, or_left, eqb-true, eq-eqb}
 use Rattle.std.proofs.lemmas.List.{get_or_append_left, get_or-take, length-take-le, length-append, length_push}
 use Rattle.sat_terms.proofs.Members.{has-append_left, has-append_right, has-append_cases}
 use Rattle.sat_terms.specs.Literal.{has, neg, var_of}
-use Rattle.sat_terms.proofs.Literals.{neg-neg, neg-other, var_of-neg}
-use Rattle.clause_store.specs.Stored.{Stored, slot, slot_lits, is_firm}
+use Rattle.sat_terms.proofs.Literals.{neg-other, var_of-neg}
+use Rattle.clause_store.specs.Stored.{Stored, slot, slot_lits}
 use Rattle.trail_state.specs.declared.trail.Step.{Step}
 use Rattle.trail_state.specs.Trail.{Trace, step, no_step, true_on, value_on, IsTrail}
-use Rattle.trail_state.specs.Clauses.{FalseOn, IsUnit, IsQuiet, IsReason}
+use Rattle.trail_state.specs.Clauses.{FalseOn}
 use Rattle.trail_state.proofs.Places.{place_of_true, true_at_place}
 use Rattle.trail_state.proofs.Changes.{step_old, step_new, old_or_new}
 use Rattle.watch_lists.specs.Propagation.{Watching, Follows, Grown, AllQuiet}

@@ -1,34 +1,25 @@
 -- Laws of the rule on one clause of a kernel.
-use Rattle.std.proofs.Common.{◌≡◌, ◌≢◌, ℕ, suc, zero, ◌+◌, ◌-◌, ◌*◌, ◌<◌, ◌≤◌, Bool, true, false, not, eqb, ◌&&◌, ◌||◌, List, [], ◌∷◌, ◌++◌, length, get_or, take, Option, Some, None, IsSome, inl, inr, ◌⊎◌, refl, sym, ap, ◌∙◌, subst, arith}
-use Rattle.std.proofs.lemmas.Bool.{false≢true, cases_Bool, cases_eq, cases_lt, and_parts, and_from, or_cases, or_left, or_right, eqb-true, eq-eqb, ne_eqb, false_from_ne_true}
-use Rattle.std.proofs.lemmas.List.{length-take-le, get_or_default}
+use Rattle.std.proofs.Common.{◌≡◌, ◌≢◌, ℕ, suc, zero, ◌<◌, ◌≤◌, true, false, not, eqb, ◌&&◌, ◌||◌, List, [], ◌∷◌, length, get_or, take, Option, Some, None, inl, inr, refl, sym, ap, ◌∙◌, subst, arith}
+use Rattle.std.proofs.lemmas.Bool.{false≢true, cases_eq, and_parts, and_from, or_cases, or_left, or_right, eqb-true, eq-eqb, ne_eqb, false_from_ne_true}
 use Rattle.sat_terms.specs.Literal.{has, neg, var_of}
 use Rattle.sat_terms.proofs.Literals.{var_of-neg}
 use Rattle.sat_terms.specs.Answer.{Within}
 use Rattle.sat_terms.specs.Truth.{clause_true, Implies}
 use Rattle.sat_terms.proofs.Truths.{clause_true-from, clause_true-some}
-use Rattle.clause_store.specs.Stored.{Stored, slot, slot_lits, is_firm, SlotTrue, FirmTrue, OthersTrue, Fills, Frees}
+use Rattle.clause_store.specs.Stored.{Stored, slot, slot_lits, is_firm, SlotTrue, OthersTrue, Fills, Frees}
 use Rattle.rule_kernel.specs.State.{State}
 use Rattle.rule_kernel.specs.Rules.{firm_clause, AddsImplied, DropsImplied}
 use Rattle.rule_kernel.proofs.Chained.{live_from_firm}
 use Rattle.pass_terms.specs.Firm.{firm, stands}
-use Rattle.rule_kernel.specs.Changes.{mentions}
 use Rattle.vivify_pass.specs.Clauses.{firm_size, lits_sum}
-use Rattle.pass_terms.specs.Ruled.{IsKnown, Uses, Ruled}
+use Rattle.pass_terms.specs.Ruled.{IsKnown, Ruled}
 use Rattle.pass_terms.specs.Ruled.Uses.{implied, dropped}
 use Rattle.pass_terms.specs.Ruled.Ruled.{none, more}
 use Rattle.pass_terms.proofs.Standing.{stands_from, mentions_lit, lit_of}
-use Rattle.trail_state.specs.declared.trail.Step.{Step}
-use Rattle.trail_state.specs.Trail.{Trace, step, IsBack}
+use Rattle.trail_state.specs.Trail.{Trace, IsBack}
 use Rattle.watch_lists.specs.Propagation.{Watching, Follows}
-use Rattle.vivify_pass.specs.Rule.{negs, Calm, NoneShortens}
-use Rattle.vivify_pass.specs.Trailing.{AreOthers, AllAbove, Probes, Probed, Ready}
+use Rattle.vivify_pass.specs.Trailing.{AreOthers, AllAbove, Probes, Ready}
 use Rattle.vivify_pass.specs.Turning.{always, Shortens}
-use Rattle.vivify_pass.proofs.Forcing.{calm_whole}
-use Rattle.std.proofs.Math.Nat.{mul-le-mul_left}
-use Rattle.clause_store.specs.Listing.{HasEachOnce, firm_at}
-use Rattle.vivify_pass.proofs.Counting.{listed, place_of}
-use Rattle.pass_terms.proofs.Ruling.{ruled_trans}
 use Rattle.vivify_pass.proofs.Summing.{sum_filled, sum_freed, firm_size_is}
 
 -- the lists without a clause

@@ -1,15 +1,15 @@
 -- A trail on which literals are assumed, over the firm clauses but one.
-use Rattle.std.specs.Prelude.{◌≡◌, ◌≢◌, ◌⊎◌, ◌+◌, ℕ, ◌<◌, ◌≤◌, Bool, true, false, List, [], ◌∷◌, ◌++◌, length, Option}
-use Rattle.sat_terms.specs.Literal.{has, neg, var_of}
+use Rattle.std.specs.Prelude.{◌≡◌, ◌≢◌, ◌⊎◌, ◌+◌, ℕ, ◌<◌, ◌≤◌, true, List, [], length, Option}
+use Rattle.sat_terms.specs.Literal.{has}
 use Rattle.sat_terms.specs.Normal.{IsNormal}
 use Rattle.sat_terms.specs.Answer.{Within}
 use Rattle.clause_store.specs.Stored.{Stored, slot, slot_lits, is_firm}
 use Rattle.trail_state.specs.declared.trail.Step.{Step}
-use Rattle.trail_state.specs.Trail.{Trace, step, true_on, value_on}
-use Rattle.watch_lists.specs.Propagation.{Watching, Follows, AllReady, AllQuiet}
+use Rattle.trail_state.specs.Trail.{Trace, step, true_on}
+use Rattle.watch_lists.specs.Propagation.{Watching, Follows, AllReady}
 use Rattle.vivify_pass.specs.declared.probe.Look.{Look}
 use Rattle.vivify_pass.specs.declared.probe.Look.TheVariants.{False, True, Open}
-use Rattle.vivify_pass.specs.Rule.{Forced, Fails, negs, Vivifies, Calm}
+use Rattle.vivify_pass.specs.Rule.{Forced, Fails, Vivifies, Calm}
 
 -- the ids are those of the firm clauses but one
 pub record AreOthers (s : List (Option Stored)) (id : ℕ) (ids : List ℕ) : Type 0 where

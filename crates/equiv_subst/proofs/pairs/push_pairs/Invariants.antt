@@ -1,6 +1,4 @@
-use Rattle.std.proofs.Common.{◌≡◌, ◌≤◌, length}
 use Rattle.rule_kernel.specs.Frozen.{is_frozen}
-use Rattle.equiv_subst.specs.Walk.{AreFrom, FrontFrozen}
 use Rattle.equiv_subst.proofs.Pairing.{Pairing}
 use Rattle.equiv_subst.proofs.pairs.push_pairs.Given as goal
 

@@ -1,12 +1,7 @@
-use Rattle.std.proofs.Common.{◌≡◌, ◌≢◌, ◌<◌, ◌≤◌, ℕ, length, refl, sym, ap, subst, arith}
+use Rattle.std.proofs.Common.{◌≢◌, ◌<◌, length, sym, subst, arith}
 use Rattle.rule_kernel.specs.Frozen.{is_frozen}
-use Rattle.rule_kernel.specs.State.{State}
 use Rattle.sat_terms.specs.Literal.{var_of}
-use Rattle.pass_terms.specs.Ruled.{Ruled}
-use Rattle.pass_terms.proofs.Ruling.{ruled_trans, ruled_weaken}
 use Rattle.equiv_subst.specs.Pass.{IsEquivalent}
-use Rattle.equiv_subst.specs.Replacing.{all_but}
-use Rattle.equiv_subst.specs.Walk.{pair}
 use Rattle.equiv_subst.specs.declared.pairs.Pair.{Pair}
 use Rattle.equiv_subst.proofs.Passing.{advancing_none, advancing_more, still, advanced, exhausted, pair_read, ruled_on}
 use Rattle.equiv_subst.proofs.pass.replace_all.Goals as goal

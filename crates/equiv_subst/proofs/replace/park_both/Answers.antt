@@ -1,7 +1,5 @@
-use Rattle.std.proofs.Common.{◌≡◌, true, sym, ap, ◌∙◌}
 use Rattle.pass_terms.proofs.Ruling.{ruled_trans}
 use Rattle.sat_terms.specs.Literal.{var_of, neg}
-use Rattle.clause_store.specs.Stored.{slot, is_firm}
 use Rattle.equiv_subst.specs.Clauses.{Holds}
 use Rattle.equiv_subst.specs.Replacing.{all_but}
 use Rattle.equiv_subst.proofs.Replacing.{park_back, park_forth, left_forth, cleared_first, parked_both, ruled_first, ruled_park, ruled_same}

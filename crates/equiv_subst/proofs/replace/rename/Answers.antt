@@ -1,4 +1,4 @@
-use Rattle.std.proofs.Common.{◌≡◌, List, ℕ, refl, sym, ap, ◌∙◌}
+use Rattle.std.proofs.Common.{◌≡◌}
 use Rattle.normal_form.specs.Forms.{IsFormOf, IsTautology}
 use Rattle.clause_store.specs.Stored.{slot, slot_lits}
 use Rattle.pass_terms.specs.Ruled.Ruled.{none}

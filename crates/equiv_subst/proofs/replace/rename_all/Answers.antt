@@ -1,4 +1,4 @@
-use Rattle.std.proofs.Common.{◌≡◌, ◌≤◌, refl, sym, arith}
+use Rattle.std.proofs.Common.{◌≡◌, arith}
 use Rattle.equiv_subst.proofs.Replacing.{renaming_none, renaming_more, ruled_then, stopped}
 use Rattle.equiv_subst.proofs.replace.rename_all.Goals as goal
 

@@ -1,4 +1,4 @@
-use Rattle.std.proofs.Common.{◌≤◌, count_by}
+use Rattle.std.proofs.Common.{count_by}
 use Rattle.equiv_subst.specs.Replacing.{about}
 use Rattle.sat_terms.specs.Literal.{var_of}
 use Rattle.equiv_subst.proofs.Replacing.{Renaming}

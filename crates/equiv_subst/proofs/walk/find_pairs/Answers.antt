@@ -1,6 +1,6 @@
-use Rattle.std.proofs.Common.{◌≡◌, ◌≤◌, ◌<◌, length, arith, rules}
+use Rattle.std.proofs.Common.{◌≤◌, length, arith, rules}
 use Rattle.rule_kernel.specs.Frozen.{is_frozen}
-use Rattle.equiv_subst.proofs.Finding.{finding_none, finding_more, finding_same, finding_halted, found}
+use Rattle.equiv_subst.proofs.Finding.{finding_none, finding_more, finding_same, found}
 use Rattle.equiv_subst.proofs.walk.find_pairs.Goals as goal
 use Rattle.equiv_subst.proofs.walk.find_pairs.Goals.{in-Some+in_ok-explore+else-not-branch, in_default}
 

@@ -1,4 +1,4 @@
-use Rattle.std.proofs.Common.{◌≡◌, ◌≢◌, ◌<◌, ◌≤◌, ℕ, length, true, false, sym, ◌∙◌, ap, arith, inl, inr, ◌++◌, ◌∷◌, [], ◌+◌}
+use Rattle.std.proofs.Common.{◌≡◌, ◌<◌, length, true, false, sym, ◌∙◌, arith, inl, inr, ◌++◌, ◌∷◌, []}
 use Rattle.std.proofs.lemmas.Bool.{false≢true}
 use Rattle.std.proofs.lemmas.List.{length_push}
 use Rattle.sat_terms.specs.Literal.{neg}

@@ -1,4 +1,4 @@
-use Rattle.std.proofs.Common.{◌≤◌, ◌<◌, take}
+use Rattle.std.proofs.Common.{◌≤◌, take}
 use Rattle.sat_terms.specs.Limits.{max_var}
 use Rattle.sat_terms.specs.Answer.{Within}
 use Rattle.vivify_pass.proofs.setup.greatest.Given as goal

@@ -1,5 +1,3 @@
-use Rattle.std.proofs.Common.{◌<◌, ℕ, get_or}
-use Rattle.sat_terms.specs.Limits.{max_var}
 use Rattle.vivify_pass.proofs.Setting.{Covered}
 use Rattle.vivify_pass.proofs.setup.last_var.Given as goal
 

@@ -1,11 +1,11 @@
-use Rattle.std.proofs.Common.{◌≡◌, ◌≢◌, ◌≤◌, ◌<◌, ℕ, List, Bool, refl, ◌+◌, not, eqb, ◌&&◌, length, true, sym, ap, ◌∙◌, subst, arith}
-use Rattle.sat_terms.specs.Literal.{has, neg, var_of}
+use Rattle.std.proofs.Common.{◌≡◌, ◌≤◌, ◌<◌, ℕ, refl, ◌+◌, not, eqb, ◌&&◌, length, sym, ap, ◌∙◌, arith}
+use Rattle.sat_terms.specs.Literal.{has}
 use Rattle.clause_store.specs.Stored.{slot, slot_lits}
 use Rattle.watch_lists.specs.Propagation.{Follows}
 use Rattle.pass_terms.specs.Ruled.Ruled.{none}
 use Rattle.vivify_pass.specs.Trailing.{Probed}
 use Rattle.vivify_pass.proofs.Forcing.{result_implied}
-use Rattle.vivify_pass.proofs.Turning.{declared_all, drops_longer, known_new, ruled_next, ruled_first, ruled_same, within_next, within_again, ready_same, ready_next, back_empty, attached_kept, shortens_next, came_new, no_more_id}
+use Rattle.vivify_pass.proofs.Turning.{declared_all, drops_longer, known_new, ruled_next, ruled_same, within_next, ready_same, ready_next, back_empty, attached_kept, shortens_next, came_new, no_more_id}
 use Rattle.vivify_pass.proofs.turn.try_one.Goals as goal
 
 pub returns-in_err-lits-clause-ruled : goal.returns-in_err-lits-clause-ruled

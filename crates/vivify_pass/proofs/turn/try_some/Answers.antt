@@ -1,5 +1,5 @@
 use Rattle.std.proofs.Common.{◌<◌, length, arith}
-use Rattle.vivify_pass.proofs.Circling.{trying_more, trying_shorter, trying_full, trying_ruled}
+use Rattle.vivify_pass.proofs.Circling.{trying_more, trying_shorter, trying_full}
 use Rattle.vivify_pass.proofs.Turning.{ruled_same}
 use Rattle.vivify_pass.proofs.turn.try_some.Goals as goal
 

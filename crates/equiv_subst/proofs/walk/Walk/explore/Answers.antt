@@ -1,4 +1,4 @@
-use Rattle.std.proofs.Common.{◌≡◌, ◌<◌, length, arith, rules}
+use Rattle.std.proofs.Common.{rules}
 use Rattle.rule_kernel.specs.Frozen.{is_frozen}
 use Rattle.equiv_subst.proofs.Turning.{exploring_met}
 use Rattle.equiv_subst.proofs.walk.Walk.explore.Goals as goal

@@ -1,6 +1,6 @@
-use Rattle.std.proofs.Common.{◌≡◌, ◌+◌, ◌-◌, ◌<◌, ◌≤◌, ℕ, List, length, refl, sym, subst, ap, ◌∙◌, arith}
+use Rattle.std.proofs.Common.{◌≡◌, ◌<◌, length, subst, arith}
 use Rattle.rule_kernel.specs.Frozen.{is_frozen}
-use Rattle.equiv_subst.specs.Walk.{Way, OnPath}
+use Rattle.equiv_subst.specs.Walk.{Way}
 use Rattle.equiv_subst.proofs.Turning.{turned_close, turned_look, top_read, lit_read}
 use Rattle.equiv_subst.proofs.walk.Walk.turn.Goals as goal
 
