@@ -1,5 +1,6 @@
 -- What a box means that knows one clause of two literals.
-use Rattle.std.specs.Prelude.{ℕ, ◌%◌, not, ◌≡◌, ◌||◌, ◌&&◌, ◌==◌, ◌∷◌, [], ◌++◌, Bool, true, false, List, Option, Some, None}
+use Rattle.std.specs.Prelude.{ℕ, ◌%◌, not, ◌≡◌, ◌||◌, ◌&&◌, ◌==◌, Bool, true, false}
+use Rattle.std.specs.Prelude.{List, ◌∷◌, [], ◌++◌, Option, Some, None}
 use Rattle.std.proofs.Common.{ap, ◌∙◌, refl, sym, inl, inr, eqb}
 use Rattle.std.proofs.lemmas.Bool.{cases_Bool, eq-eqb, or_left, or_right}
 use Rattle.sat_terms.specs.Literal.{has, neg, var_of}
@@ -15,7 +16,16 @@ pair a b = a ∷ b ∷ []
 
 -- It admits what makes the clause true, and explains what the test says.
 abbrev pub pair_meaning : ℕ → ℕ → (List Seen → ℕ → Bool) → ℕ → Meaning
-pair_meaning a b explains asked = record { admits = λ f. clause_true f (pair a b); scope = var_of a ∷ var_of b ∷ []; in_step = λ _. true; explains = explains; steady = true; kinds = []; asked = asked; accepted = 0 }
+pair_meaning a b explains asked = record {
+  admits = λ f. clause_true f (pair a b);
+  scope = var_of a ∷ var_of b ∷ [];
+  in_step = λ _. true;
+  explains = explains;
+  steady = true;
+  kinds = [];
+  asked = asked;
+  accepted = 0;
+}
 
 abbrev pub is_false : Option Bool → Bool
 is_false None = false
@@ -56,12 +66,17 @@ lit_same f g l h =
       | inr n ↦ lit_true_neg f l n ∙ ap not h ∙ sym (lit_true_neg g l n)
     ]
 
-pub pair_depends : (a b asked : ℕ) (explains : List Seen → ℕ → Bool) → DependsOnScope (pair_meaning a b explains asked)
+has_first : (x : ℕ) (xs : List ℕ) → has (x ∷ xs) x ≡ true
+has_first x xs = or_left (eqb x x) (has xs x) (eq-eqb x x refl)
+
+has_second : (x y : ℕ) (xs : List ℕ) → has (x ∷ y ∷ xs) y ≡ true
+has_second x y xs = or_right (eqb x y) (has (y ∷ xs) y) (has_first y xs)
+
+pub pair_depends : (a b asked : ℕ) (explains : List Seen → ℕ → Bool)
+    → DependsOnScope (pair_meaning a b explains asked)
 pair_depends a b asked explains f g h =
-    let here : has (var_of a ∷ var_of b ∷ []) (var_of a) ≡ true = or_left (eqb (var_of a) (var_of a)) (has (var_of b ∷ []) (var_of a)) (eq-eqb (var_of a) (var_of a) refl) in
-    let there : has (var_of a ∷ var_of b ∷ []) (var_of b) ≡ true = or_right (eqb (var_of a) (var_of b)) (has (var_of b ∷ []) (var_of b)) (or_left (eqb (var_of b) (var_of b)) false (eq-eqb (var_of b) (var_of b) refl)) in
-    let la = lit_same f g a (h (var_of a) here) in
-    let lb = lit_same f g b (h (var_of b) there) in
+    let la = lit_same f g a (h (var_of a) (has_first (var_of a) (var_of b ∷ []))) in
+    let lb = lit_same f g b (h (var_of b) (has_second (var_of a) (var_of b) [])) in
     ap (λ x. x || (lit_true f b || false)) la ∙ ap (λ x. lit_true g a || (x || false)) lb
 
 -- the second literal is observed and has no value, and the first one is true

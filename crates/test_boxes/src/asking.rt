@@ -1,6 +1,7 @@
 //! A box that wants to observe a variable in the middle of a search.
 ghost use Rattle.std.specs.Prelude.{◌≡◌, ℕ, refl, OnOk, OnErr};
-ghost use Rattle.user_propagator.specs.Meaning.{Admitted, Refused, KeptByAdmit, CalledBack, StandsAt, IsReasonGiven};
+ghost use Rattle.user_propagator.specs.Meaning.{Admitted, Refused, KeptByAdmit, CalledBack};
+ghost use Rattle.user_propagator.specs.Meaning.{StandsAt, IsReasonGiven};
 ghost use Rattle.test_boxes.specs.Open.{open_meaning, HasAsked};
 
 use sat_model::constraint::{Constraint, Kind};
@@ -74,9 +75,12 @@ impl Theory for Asking {
 
     // No kind is taken, so the trait's conditions never hold: this asks for none of them.
     fn admit(&mut self, _alloc: Global, what: &Constraint, desk: &Desk) -> Result<(), Memory>
-        ensures ok { OnOk result (Admitted (open_meaning self.old.asked) (open_meaning self.new.asked) what.now) }
-        ensures err { OnErr result (Refused (open_meaning self.old.asked) (open_meaning self.new.asked)) }
-        ensures kept { KeptByAdmit (open_meaning self.old.asked) (open_meaning self.new.asked) desk.now }
+        ensures ok { OnOk result (Admitted (open_meaning self.old.asked)
+            (open_meaning self.new.asked) what.now) }
+        ensures err { OnErr result (Refused (open_meaning self.old.asked)
+            (open_meaning self.new.asked)) }
+        ensures kept { KeptByAdmit (open_meaning self.old.asked)
+            (open_meaning self.new.asked) desk.now }
     {
         Err(Memory)
     }
@@ -106,8 +110,11 @@ impl Theory for Asking {
 
     // No literal is explained, so the trait's conditions never hold: this asks for none of them.
     fn reason(&mut self, lit: Lit, desk: &Desk, out: &mut Lits) -> Result<(), Memory>
-        ensures called { CalledBack (open_meaning self.old.asked) (open_meaning self.new.asked) desk.now desk.now }
-        ensures given { OnOk result ((k : ℕ) → StandsAt (open_meaning self.old.asked) desk.now.seen k lit → IsReasonGiven (open_meaning self.new.asked) desk.now.seen k lit out.new) }
+        ensures called { CalledBack (open_meaning self.old.asked)
+            (open_meaning self.new.asked) desk.now desk.now }
+        ensures given { OnOk result ((k : ℕ)
+            → StandsAt (open_meaning self.old.asked) desk.now.seen k lit
+            → IsReasonGiven (open_meaning self.new.asked) desk.now.seen k lit out.new) }
     {
         self.asked = next(self.asked);
         Err(Memory)

@@ -47,7 +47,8 @@ impl Imply {
 impl Theory for Imply {
     ghost meaning = { λ t. imply_meaning t.from t.to t.asked };
 
-    ghost depends = { λ t. pair_depends (opposite t.from) t.to t.asked (explains_second (opposite t.from) t.to) };
+    ghost depends = { λ t.
+        pair_depends (opposite t.from) t.to t.asked (explains_second (opposite t.from) t.to) };
 
     fn takes(&self, _kind: Kind) -> bool {
         false
@@ -55,9 +56,14 @@ impl Theory for Imply {
 
     // No kind is taken, so the trait's conditions never hold: this asks for none of them.
     fn admit(&mut self, _alloc: Global, what: &Constraint, desk: &Desk) -> Result<(), Memory>
-        ensures ok { OnOk result (Admitted (imply_meaning self.old.from self.old.to self.old.asked) (imply_meaning self.new.from self.new.to self.new.asked) what.now) }
-        ensures err { OnErr result (Refused (imply_meaning self.old.from self.old.to self.old.asked) (imply_meaning self.new.from self.new.to self.new.asked)) }
-        ensures kept { KeptByAdmit (imply_meaning self.old.from self.old.to self.old.asked) (imply_meaning self.new.from self.new.to self.new.asked) desk.now }
+        ensures ok { OnOk result (Admitted
+            (imply_meaning self.old.from self.old.to self.old.asked)
+            (imply_meaning self.new.from self.new.to self.new.asked) what.now) }
+        ensures err { OnErr result (Refused
+            (imply_meaning self.old.from self.old.to self.old.asked)
+            (imply_meaning self.new.from self.new.to self.new.asked)) }
+        ensures kept { KeptByAdmit (imply_meaning self.old.from self.old.to self.old.asked)
+            (imply_meaning self.new.from self.new.to self.new.asked) desk.now }
     {
         Err(Memory)
     }

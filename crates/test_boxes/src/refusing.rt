@@ -1,6 +1,7 @@
 //! A box that no assignment satisfies, and that says so only when a model is found.
 ghost use Rattle.std.specs.Prelude.{◌≡◌, ℕ, refl, OnOk, OnErr};
-ghost use Rattle.user_propagator.specs.Meaning.{Admitted, Refused, KeptByAdmit, CalledBack, StandsAt, IsReasonGiven};
+ghost use Rattle.user_propagator.specs.Meaning.{Admitted, Refused, KeptByAdmit, CalledBack};
+ghost use Rattle.user_propagator.specs.Meaning.{StandsAt, IsReasonGiven};
 ghost use Rattle.test_boxes.specs.Open.{closed_meaning};
 
 use sat_model::constraint::{Constraint, Kind};
@@ -40,9 +41,12 @@ impl Theory for Refusing {
 
     // No kind is taken, so the trait's conditions never hold: this asks for none of them.
     fn admit(&mut self, _alloc: Global, what: &Constraint, desk: &Desk) -> Result<(), Memory>
-        ensures ok { OnOk result (Admitted (closed_meaning self.old.asked) (closed_meaning self.new.asked) what.now) }
-        ensures err { OnErr result (Refused (closed_meaning self.old.asked) (closed_meaning self.new.asked)) }
-        ensures kept { KeptByAdmit (closed_meaning self.old.asked) (closed_meaning self.new.asked) desk.now }
+        ensures ok { OnOk result (Admitted (closed_meaning self.old.asked)
+            (closed_meaning self.new.asked) what.now) }
+        ensures err { OnErr result (Refused (closed_meaning self.old.asked)
+            (closed_meaning self.new.asked)) }
+        ensures kept { KeptByAdmit (closed_meaning self.old.asked)
+            (closed_meaning self.new.asked) desk.now }
     {
         Err(Memory)
     }
@@ -71,8 +75,11 @@ impl Theory for Refusing {
 
     // No literal is explained, so the trait's conditions never hold: this asks for none of them.
     fn reason(&mut self, lit: Lit, desk: &Desk, out: &mut Lits) -> Result<(), Memory>
-        ensures called { CalledBack (closed_meaning self.old.asked) (closed_meaning self.new.asked) desk.now desk.now }
-        ensures given { OnOk result ((k : ℕ) → StandsAt (closed_meaning self.old.asked) desk.now.seen k lit → IsReasonGiven (closed_meaning self.new.asked) desk.now.seen k lit out.new) }
+        ensures called { CalledBack (closed_meaning self.old.asked)
+            (closed_meaning self.new.asked) desk.now desk.now }
+        ensures given { OnOk result ((k : ℕ)
+            → StandsAt (closed_meaning self.old.asked) desk.now.seen k lit
+            → IsReasonGiven (closed_meaning self.new.asked) desk.now.seen k lit out.new) }
     {
         self.asked = next(self.asked);
         Err(Memory)

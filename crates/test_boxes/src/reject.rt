@@ -1,6 +1,7 @@
 //! A box that knows a clause and says so only at the end, by refusing models.
 ghost use Rattle.std.specs.Prelude.{◌≡◌, ℕ, OnOk, OnErr};
-ghost use Rattle.user_propagator.specs.Meaning.{Admitted, Refused, KeptByAdmit, CalledBack, StandsAt, IsReasonGiven};
+ghost use Rattle.user_propagator.specs.Meaning.{Admitted, Refused, KeptByAdmit, CalledBack};
+ghost use Rattle.user_propagator.specs.Meaning.{StandsAt, IsReasonGiven};
 ghost use Rattle.test_boxes.specs.Pair.{reject_meaning, explains_nothing, pair_depends};
 
 use crate::pair::hand_if_broken;
@@ -49,9 +50,14 @@ impl Theory for Reject {
 
     // No kind is taken, so the trait's conditions never hold: this asks for none of them.
     fn admit(&mut self, _alloc: Global, what: &Constraint, desk: &Desk) -> Result<(), Memory>
-        ensures ok { OnOk result (Admitted (reject_meaning self.old.first self.old.second self.old.asked) (reject_meaning self.new.first self.new.second self.new.asked) what.now) }
-        ensures err { OnErr result (Refused (reject_meaning self.old.first self.old.second self.old.asked) (reject_meaning self.new.first self.new.second self.new.asked)) }
-        ensures kept { KeptByAdmit (reject_meaning self.old.first self.old.second self.old.asked) (reject_meaning self.new.first self.new.second self.new.asked) desk.now }
+        ensures ok { OnOk result (Admitted
+            (reject_meaning self.old.first self.old.second self.old.asked)
+            (reject_meaning self.new.first self.new.second self.new.asked) what.now) }
+        ensures err { OnErr result (Refused
+            (reject_meaning self.old.first self.old.second self.old.asked)
+            (reject_meaning self.new.first self.new.second self.new.asked)) }
+        ensures kept { KeptByAdmit (reject_meaning self.old.first self.old.second self.old.asked)
+            (reject_meaning self.new.first self.new.second self.new.asked) desk.now }
     {
         Err(Memory)
     }
@@ -80,8 +86,13 @@ impl Theory for Reject {
 
     // No literal is explained, so the trait's conditions never hold: this asks for none of them.
     fn reason(&mut self, lit: Lit, desk: &Desk, out: &mut Lits) -> Result<(), Memory>
-        ensures called { CalledBack (reject_meaning self.old.first self.old.second self.old.asked) (reject_meaning self.new.first self.new.second self.new.asked) desk.now desk.now }
-        ensures given { OnOk result ((k : ℕ) → StandsAt (reject_meaning self.old.first self.old.second self.old.asked) desk.now.seen k lit → IsReasonGiven (reject_meaning self.new.first self.new.second self.new.asked) desk.now.seen k lit out.new) }
+        ensures called { CalledBack (reject_meaning self.old.first self.old.second self.old.asked)
+            (reject_meaning self.new.first self.new.second self.new.asked) desk.now desk.now }
+        ensures given { OnOk result ((k : ℕ)
+            → StandsAt (reject_meaning self.old.first self.old.second self.old.asked)
+            desk.now.seen k lit
+            → IsReasonGiven (reject_meaning self.new.first self.new.second self.new.asked)
+            desk.now.seen k lit out.new) }
     {
         self.asked = next(self.asked);
         Err(Memory)
