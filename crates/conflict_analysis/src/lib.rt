@@ -7,8 +7,8 @@
 pub mod analysis;
 pub mod levels;
 pub mod scratch;
+mod shorten;
 pub mod tally;
 #[cfg(test)]
 mod tests;
-mod shorten;
 mod walk;

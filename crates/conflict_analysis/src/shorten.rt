@@ -148,7 +148,13 @@ impl Scratch {
 
     // All of the reason was looked at: where the literal follows it is marked, and where it does not
     // all of the path is needed. Says whether the walk goes on.
-    fn end_visit(&mut self, store: &Store, trail: &Trail, uip: usize, lit: Lit) -> Result<bool, Memory>
+    fn end_visit(
+        &mut self,
+        store: &Store,
+        trail: &Trail,
+        uip: usize,
+        lit: Lit,
+    ) -> Result<bool, Memory>
         requires rooted { Rooted store.now trail.now.steps }
         requires resolved { IsResolved store.now trail.now uip self.old }
         ensures resolved { OnOk result (IsResolved store.now trail.now uip self.new) }
@@ -176,7 +182,14 @@ impl Scratch {
     }
 
     // One step of the walk at the last literal of the path, and whether the walk goes on.
-    fn visit(&mut self, store: &Store, trail: &Trail, uip: usize, lit: Lit, start: usize) -> Result<bool, Memory>
+    fn visit(
+        &mut self,
+        store: &Store,
+        trail: &Trail,
+        uip: usize,
+        lit: Lit,
+        start: usize,
+    ) -> Result<bool, Memory>
         requires rooted { Rooted store.now trail.now.steps }
         requires resolved { IsResolved store.now trail.now uip self.old }
         ensures resolved { OnOk result (IsResolved store.now trail.now uip self.new) }

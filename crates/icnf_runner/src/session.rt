@@ -51,7 +51,7 @@ pub fn add_clause(solver: &mut Solver, clause: &Lits) -> Result<(), Memory>
 
 // Assumes a literal, for which the solver has room.
 fn assume_one(solver: &mut Solver, lit: Lit) -> Result<(), Memory>
-    requires { (state solver.old).taken <  max_literals }
+    requires { (state solver.old).taken < max_literals }
     ensures { OnOk result (state solver.new ≡ assumed (state solver.old) (lit ∷ [])) }
 {
     match solver.assume(lit) {

@@ -77,8 +77,8 @@ Accepted old call reply new = ⊥
 
 -- what a refused call leaves, and when a refusal comes
 abbrev pub Refused : State → Call → Refusal → State → Type 0
-Refused old (Add lits) (refusals.TooManyLiterals count) new = (count ≡ old.taken + length lits) × ( max_literals < count) × (new ≡ old)
-Refused old (Assume lit) (refusals.TooManyLiterals count) new = (count ≡ old.taken + 1) × ( max_literals < count) × (new ≡ old)
+Refused old (Add lits) (refusals.TooManyLiterals count) new = (count ≡ old.taken + length lits) × (max_literals < count) × (new ≡ old)
+Refused old (Assume lit) (refusals.TooManyLiterals count) new = (count ≡ old.taken + 1) × (max_literals < count) × (new ≡ old)
 Refused old (Add lits) refusals.Memory new = (old.taken + length lits ≤ max_literals) × (new ≡ record old { mode = modes.Input })
 Refused old (Assume lit) refusals.Memory new = (old.taken + 1 ≤ max_literals) × (new ≡ record old { mode = modes.Input })
 Refused old (Solve budget limit) refusals.Memory new = new ≡ record old { pending = []; mode = modes.Input }
