@@ -27,25 +27,27 @@ fn add(alloc: Global, kernel: &mut Kernel, lits: &[Lit]) -> Result<(), Fail> {
     Ok(())
 }
 
-// Adds the clauses of some numbers.
-fn add_all(alloc: Global, kernel: &mut Kernel, clauses: &[&[i32]]) -> Result<(), Fail> {
-    for clause in clauses {
-        let mut lits = Vec::new(alloc);
-        for number in *clause {
-            lits.push(lit(*number)?)?;
-        }
-        add(alloc, kernel, lits.as_slice())?;
+// The clause of some numbers.
+fn clause_of(alloc: Global, numbers: &[i32]) -> Result<Vec<Lit>, Fail> {
+    let mut lits = Vec::new(alloc);
+    for number in numbers {
+        lits.push(lit(*number)?)?;
     }
-    Ok(())
+    Ok(lits)
 }
 
-// A set of the variables of some numbers.
-fn frozen_set(alloc: Global, numbers: &[i32]) -> Result<Frozen, Fail> {
-    let mut set = Frozen::new(alloc);
+// Adds the clause of some numbers.
+fn add_numbers(alloc: Global, kernel: &mut Kernel, numbers: &[i32]) -> Result<(), Fail> {
+    let lits = clause_of(alloc, numbers)?;
+    add(alloc, kernel, lits.as_slice())
+}
+
+// Freezes the variables of some numbers.
+fn freeze(frozen: &mut Frozen, numbers: &[i32]) -> Result<(), Fail> {
     for number in numbers {
-        set.freeze(lit(*number)?.var())?;
+        frozen.freeze(lit(*number)?.var())?;
     }
-    Ok(set)
+    Ok(())
 }
 
 // Writes literals, each behind a space.
@@ -57,22 +59,26 @@ fn write_lits(alloc: Global, text: &mut String, lits: &[Lit]) -> Result<(), Fail
     Ok(())
 }
 
-// The firm clauses in brackets, and the entries of the stack, witness and clause, in parentheses.
-fn text_of(alloc: Global, kernel: &Kernel) -> Result<String, Fail> {
-    let mut text = String::new(alloc);
+// Writes the firm clauses in brackets.
+fn write_firm(alloc: Global, text: &mut String, kernel: &Kernel) -> Result<(), Fail> {
     for id in kernel.store().firm_ids() {
         text.push_str("[")?;
-        write_lits(alloc, &mut text, kernel.store().get(*id))?;
+        write_lits(alloc, text, kernel.store().get(*id))?;
         text.push_str(" ]")?;
     }
+    Ok(())
+}
+
+// Writes the entries of the stack, witness and clause, in parentheses.
+fn write_stack(alloc: Global, text: &mut String, kernel: &Kernel) -> Result<(), Fail> {
     for k in 0..kernel.stack().len() {
         text.push_str(" (")?;
-        write_lits(alloc, &mut text, kernel.stack().witness(k))?;
+        write_lits(alloc, text, kernel.stack().witness(k))?;
         text.push_str(" :")?;
-        write_lits(alloc, &mut text, kernel.stack().clause(k))?;
+        write_lits(alloc, text, kernel.stack().clause(k))?;
         text.push_str(" )")?;
     }
-    Ok(text)
+    Ok(())
 }
 
 // A kernel and what the pass makes of it.
@@ -172,19 +178,52 @@ const ROWS: &[Row] = &[
     },
 ];
 
+// Runs the pass with the frozen variables of a row.
+fn run_frozen(alloc: Global, kernel: &mut Kernel, row: &Row) -> Result<PassReport, Fail> {
+    let mut frozen = Frozen::new(alloc);
+    freeze(&mut frozen, row.frozen)?;
+    Ok(run(alloc, kernel, &frozen, row.limit)?)
+}
+
+// Makes the kernel of a row, runs the pass, and writes what it left.
+fn run_row(
+    alloc: Global,
+    kernel: &mut Kernel,
+    row: &Row,
+    text: &mut String,
+) -> Result<PassReport, Fail> {
+    for numbers in row.clauses {
+        add_numbers(alloc, kernel, *numbers)?;
+    }
+    let report = run_frozen(alloc, kernel, row)?;
+    write_firm(alloc, text, kernel)?;
+    write_stack(alloc, text, kernel)?;
+    Ok(report)
+}
+
+// Whether the pass makes of the kernel of a row what the row says.
+fn is_right(alloc: Global, row: &Row) -> Result<bool, Fail> {
+    let mut kernel = Kernel::new(alloc);
+    let mut text = String::new(alloc);
+    let report = run_row(alloc, &mut kernel, row, &mut text)?;
+    Ok(text.as_str() == row.text && report.removed == row.removed && report.ended == row.ended)
+}
+
+// How many rows come out right before one does not.
+fn right_rows(alloc: Global) -> Result<usize, Fail> {
+    let mut count: usize = 0;
+    for row in ROWS {
+        if !is_right(alloc, row)? {
+            return Ok(count);
+        }
+        count = count.saturating_add(1);
+    }
+    Ok(count)
+}
+
 #[test]
 fn small_kernels(rt: HostRuntime) -> Result<(), Fail> {
-    let alloc = rt.alloc();
-    for row in ROWS {
-        let mut kernel = Kernel::new(alloc);
-        add_all(alloc, &mut kernel, row.clauses)?;
-        let frozen = frozen_set(alloc, row.frozen)?;
-        let report = run(alloc, &mut kernel, &frozen, row.limit)?;
-        let text = text_of(alloc, &kernel)?;
-        assert_eq!(rt; text.as_str(), row.text);
-        assert_eq!(rt; report.removed, row.removed);
-        assert!(rt; report.ended == row.ended);
-    }
+    assert_eq!(rt; right_rows(rt.alloc())?, ROWS.len());
     Ok(())
 }
 
@@ -223,39 +262,57 @@ impl Draw {
             var.negative()
         })
     }
-
-    // Some literals, two more often than one or three.
-    fn literals(&mut self, alloc: Global) -> Result<Vec<Lit>, Fail> {
-        let mut lits = Vec::new(alloc);
-        lits.push(self.literal()?)?;
-        if self.below(12) > 0 {
-            lits.push(self.literal()?)?;
-        }
-        if self.below(3) == 0 {
-            lits.push(self.literal()?)?;
-        }
-        Ok(lits)
-    }
 }
 
-// The values that the bits of a number give to the variables.
-fn model_of(alloc: Global, number: u32) -> Result<Vec<bool>, Fail> {
-    let mut model = Vec::new(alloc);
-    let mut rest = number;
-    for _ in 0..VARS {
-        model.push(rest % 2 == 1)?;
-        rest /= 2;
+// Adds a clause that is drawn, of two literals more often than of one or three.
+fn draw_clause(alloc: Global, draw: &mut Draw, kernel: &mut Kernel) -> Result<(), Fail> {
+    let lits = [draw.literal()?, draw.literal()?, draw.literal()?];
+    if draw.below(12) == 0 {
+        return add(alloc, kernel, &lits[..1]);
     }
-    Ok(model)
+    if draw.below(3) == 0 {
+        return add(alloc, kernel, &lits);
+    }
+    add(alloc, kernel, &lits[..2])
 }
 
-// Whether a model makes the firm clauses and those of the stack true.
-fn is_model(kernel: &Kernel, model: &[bool]) -> bool {
+// Learns the normal form of a clause.
+fn learn(alloc: Global, kernel: &mut Kernel, lits: &[Lit]) -> Result<(), Fail> {
+    if let Some(form) = normal_form(alloc, lits)? {
+        kernel.learn(form.as_slice(), 1)?;
+    }
+    Ok(())
+}
+
+// Adds some clauses that are drawn, and learns one of one literal.
+fn draw_clauses(alloc: Global, draw: &mut Draw, kernel: &mut Kernel) -> Result<(), Fail> {
+    for _ in 0..draw.below(8) {
+        draw_clause(alloc, draw, kernel)?;
+    }
+    let lit = draw.literal()?;
+    learn(alloc, kernel, &[lit])
+}
+
+// Freezes a variable that is drawn, every other time.
+fn draw_frozen(draw: &mut Draw, frozen: &mut Frozen) -> Result<(), Fail> {
+    if draw.below(2) == 0 {
+        frozen.freeze(draw.literal()?.var())?;
+    }
+    Ok(())
+}
+
+// Whether a model makes the firm clauses true.
+fn is_firm_true(kernel: &Kernel, model: &[bool]) -> bool {
     for id in kernel.store().firm_ids() {
         if !clause_true(model, kernel.store().get(*id)) {
             return false;
         }
     }
+    true
+}
+
+// Whether a model makes the clauses of the stack true.
+fn is_stack_true(kernel: &Kernel, model: &[bool]) -> bool {
     for k in 0..kernel.stack().len() {
         if !clause_true(model, kernel.stack().clause(k)) {
             return false;
@@ -264,56 +321,113 @@ fn is_model(kernel: &Kernel, model: &[bool]) -> bool {
     true
 }
 
-// For each assignment whether it makes the firm clauses and those of the stack true.
-fn models(alloc: Global, kernel: &Kernel) -> Result<Vec<bool>, Fail> {
-    let mut all = Vec::new(alloc);
-    for number in 0..32 {
-        let model = model_of(alloc, number)?;
-        all.push(is_model(kernel, model.as_slice()))?;
+// Whether the values that the bits of a number give to the variables make the firm clauses and
+// those of the stack true.
+fn is_model(kernel: &Kernel, bits: u32) -> bool {
+    let model = [
+        bits % 2 == 1,
+        bits / 2 % 2 == 1,
+        bits / 4 % 2 == 1,
+        bits / 8 % 2 == 1,
+        bits / 16 % 2 == 1,
+    ];
+    is_firm_true(kernel, &model) && is_stack_true(kernel, &model)
+}
+
+// The assignments that make the firm clauses and those of the stack true, a bit for each.
+fn models(kernel: &Kernel) -> u32 {
+    let mut all: u32 = 0;
+    for bits in 0..32 {
+        let bit = if is_model(kernel, bits) { 1 } else { 0 };
+        all = all.wrapping_mul(2).wrapping_add(bit);
     }
-    Ok(all)
+    all
 }
 
-// Whether a literal stands in a list.
-fn is_among(lits: &[Lit], lit: Lit) -> bool {
-    lits.iter().any(|other| *other == lit)
+// A set of literals of the drawn variables: a place for each literal's code, which is below 12.
+type Lits = [bool; 12];
+
+// Whether a literal is in a set.
+fn has(set: &Lits, lit: Lit) -> bool {
+    let at = lit.code() as usize;
+    at < set.len() && set[at]
 }
 
-// Puts a literal of a binary clause to those that were reached, where the other one's negation
-// was.
-fn follow(reached: &mut Vec<Lit>, from: Lit, to: Lit) -> Result<(), Fail> {
-    if is_among(reached.as_slice(), from.neg()) && !is_among(reached.as_slice(), to) {
-        reached.push(to)?;
+// Puts a literal into a set.
+fn put(set: &mut Lits, lit: Lit) {
+    let at = lit.code() as usize;
+    if at < set.len() {
+        set[at] = true;
     }
-    Ok(())
 }
 
-// The literals to which one leads by the binary firm clauses.
-fn reached_from(alloc: Global, kernel: &Kernel, lit: Lit) -> Result<Vec<Lit>, Fail> {
-    let mut reached = Vec::new(alloc);
-    reached.push(lit)?;
+// Puts a literal into a set, where another one is in it.
+fn lead(set: &mut Lits, from: Lit, to: Lit) {
+    if has(set, from) {
+        put(set, to);
+    }
+}
+
+// Puts the literals into a set to which a clause of two leads from its literals.
+fn follow(set: &mut Lits, lits: &[Lit]) {
+    if lits.len() != 2 {
+        return;
+    }
+    lead(set, lits[0].neg(), lits[1]);
+    lead(set, lits[1].neg(), lits[0]);
+}
+
+// Puts the literals into a set to which one firm clause after the other leads.
+fn follow_all(kernel: &Kernel, set: &mut Lits) {
+    for id in kernel.store().firm_ids() {
+        follow(set, kernel.store().get(*id));
+    }
+}
+
+// Whether the binary firm clauses lead from one literal to another: one round for each literal is
+// enough.
+fn leads(kernel: &Kernel, from: Lit, to: Lit) -> bool {
+    let mut set = [false; 12];
+    put(&mut set, from);
     for _ in 0..2 * VARS {
-        for id in kernel.store().firm_ids() {
-            let lits = kernel.store().get(*id);
-            if lits.len() == 2 {
-                follow(&mut reached, lits[0], lits[1])?;
-                follow(&mut reached, lits[1], lits[0])?;
-            }
-        }
+        follow_all(kernel, &mut set);
     }
-    Ok(reached)
+    has(&set, to)
+}
+
+// Whether two literals are equivalent.
+fn are_equivalent(kernel: &Kernel, lit: Lit, other: Lit) -> bool {
+    leads(kernel, lit, other) && leads(kernel, other, lit)
+}
+
+// Whether a literal is equivalent to one of the variable of a number, which is another.
+fn is_tied(kernel: &Kernel, lit: Lit, number: u32) -> bool {
+    match Var::new(number) {
+        Some(var) => {
+            var != lit.var()
+                && (are_equivalent(kernel, lit, var.positive())
+                    || are_equivalent(kernel, lit, var.negative()))
+        }
+        None => false,
+    }
 }
 
 // Whether a literal is equivalent to one of another variable.
-fn has_equivalent(alloc: Global, kernel: &Kernel, lit: Lit) -> Result<bool, Fail> {
-    let reached = reached_from(alloc, kernel, lit)?;
-    for other in reached.as_slice() {
-        let back = reached_from(alloc, kernel, *other)?;
-        if other.var() != lit.var() && is_among(back.as_slice(), lit) {
-            return Ok(true);
+fn has_equivalent(kernel: &Kernel, lit: Lit) -> bool {
+    for number in 1..=VARS {
+        if is_tied(kernel, lit, number) {
+            return true;
         }
     }
-    Ok(false)
+    false
+}
+
+// Whether the variable of a number is not frozen and is to be replaced.
+fn is_left(kernel: &Kernel, frozen: &Frozen, number: u32) -> bool {
+    match Var::new(number) {
+        Some(var) => !frozen.has(var) && has_equivalent(kernel, var.positive()),
+        None => false,
+    }
 }
 
 // Whether an empty clause is firm.
@@ -326,33 +440,40 @@ fn is_refuted(kernel: &Kernel) -> bool {
     false
 }
 
-// Whether a variable stands in firm clauses.
-fn stands(kernel: &Kernel, var: Var) -> bool {
-    kernel.store().occ(var.positive()).len() > 0 || kernel.store().occ(var.negative()).len() > 0
-}
-
-// For each variable whether it stands in firm clauses.
-fn standing(alloc: Global, kernel: &Kernel) -> Result<Vec<bool>, Fail> {
-    let mut all = Vec::new(alloc);
-    for number in 1..=VARS {
-        let var = Var::new(number).ok_or("no variable")?;
-        all.push(stands(kernel, var))?;
-    }
-    Ok(all)
-}
-
-// Whether each variable that is not frozen is equivalent to none, unless an empty clause is firm.
-fn is_fixpoint(alloc: Global, kernel: &Kernel, frozen: &Frozen) -> Result<bool, Fail> {
+// Whether no variable is to be replaced, or an empty clause is firm.
+fn is_fixpoint(kernel: &Kernel, frozen: &Frozen) -> bool {
     if is_refuted(kernel) {
-        return Ok(true);
+        return true;
     }
     for number in 1..=VARS {
-        let var = Var::new(number).ok_or("no variable")?;
-        if !frozen.has(var) && has_equivalent(alloc, kernel, var.positive())? {
-            return Ok(false);
+        if is_left(kernel, frozen, number) {
+            return false;
         }
     }
-    Ok(true)
+    true
+}
+
+// Whether the variable of a number stands in firm clauses.
+fn stands(kernel: &Kernel, number: u32) -> bool {
+    match Var::new(number) {
+        Some(var) => {
+            kernel.store().occ(var.positive()).len() > 0
+                || kernel.store().occ(var.negative()).len() > 0
+        }
+        None => false,
+    }
+}
+
+// How many variables stand in firm clauses.
+fn standing(kernel: &Kernel) -> u64 {
+    let mut all: u64 = 0;
+    for number in 1..=VARS {
+        if !stands(kernel, number) {
+            continue;
+        }
+        all = all.saturating_add(1);
+    }
+    all
 }
 
 // Whether the entries of the stack from a place on have witnesses of one literal that is not
@@ -370,38 +491,23 @@ fn are_single(kernel: &Kernel, frozen: &Frozen, from: usize) -> bool {
 // What of a kernel is compared before and after the pass.
 #[derive(Drop)]
 struct Seen {
-    models: Vec<bool>,
-    standing: Vec<bool>,
-    firm: usize,
+    models: u32,
+    standing: u64,
+    firm: u64,
     redundant: usize,
     entries: usize,
     removals: u64,
 }
 
-fn see(alloc: Global, kernel: &Kernel) -> Result<Seen, Fail> {
-    Ok(Seen {
-        models: models(alloc, kernel)?,
-        standing: standing(alloc, kernel)?,
-        firm: kernel.store().firm_ids().len(),
+fn see(kernel: &Kernel) -> Seen {
+    Seen {
+        models: models(kernel),
+        standing: standing(kernel),
+        firm: kernel.store().firm_ids().len() as u64,
         redundant: kernel.store().redundant_ids().len(),
         entries: kernel.stack().len(),
         removals: kernel.removals(),
-    })
-}
-
-// How many variables stood before, and how many of them stand no more.
-fn counts(before: &[bool], after: &[bool]) -> (u64, u64) {
-    let mut stood: u64 = 0;
-    let mut gone: u64 = 0;
-    for k in 0..before.len() {
-        if before[k] {
-            stood = stood.saturating_add(1);
-            if k < after.len() && !after[k] {
-                gone = gone.saturating_add(1);
-            }
-        }
     }
-    (stood, gone)
 }
 
 // Whether the end fits: a fixpoint, or the limit, which was too small, with variables gone for
@@ -413,15 +519,15 @@ fn ends_well(
     before: &Seen,
     after: &Seen,
 ) -> bool {
-    let (stood, gone) = counts(before.standing.as_slice(), after.standing.as_slice());
-    let divisor = (before.firm as u64).saturating_mul(3);
+    let gone = before.standing.saturating_sub(after.standing);
+    let divisor = before.firm.saturating_mul(3);
     match report.ended {
         Ended::Fixpoint => is_fixpoint,
         Ended::Limit(steps) => {
             steps == limit
                 && divisor > 0
                 && gone.saturating_mul(divisor).saturating_add(divisor) > steps
-                && limit < divisor.saturating_mul(stood.saturating_add(1))
+                && limit < divisor.saturating_mul(before.standing.saturating_add(1))
         }
     }
 }
@@ -435,23 +541,18 @@ struct Tally {
     wrong: u64,
 }
 
-// Runs the pass and compares.
-fn compare(
-    alloc: Global,
-    kernel: &mut Kernel,
-    frozen: &Frozen,
-    limit: u64,
-    tally: &mut Tally,
-) -> Result<(), Fail> {
-    let before = see(alloc, kernel)?;
-    let report = run(alloc, kernel, frozen, limit)?;
-    let after = see(alloc, kernel)?;
-    let is_fixpoint = is_fixpoint(alloc, kernel, frozen)?;
-    let fits = ends_well(is_fixpoint, limit, report, &before, &after)
+// Whether what came out of a run fits what was there before.
+fn fits(kernel: &Kernel, frozen: &Frozen, limit: u64, report: PassReport, before: &Seen) -> bool {
+    let after = see(kernel);
+    ends_well(is_fixpoint(kernel, frozen), limit, report, before, &after)
         && before.models == after.models
         && before.redundant == after.redundant
         && are_single(kernel, frozen, before.entries)
-        && before.removals.saturating_add(report.removed) == after.removals;
+        && before.removals.saturating_add(report.removed) == after.removals
+}
+
+// Counts a run.
+fn count(tally: &mut Tally, report: PassReport, fits: bool) {
     if !fits {
         tally.wrong = tally.wrong.saturating_add(1);
     }
@@ -460,80 +561,126 @@ fn compare(
         Ended::Limit(_) => tally.limits = tally.limits.saturating_add(1),
     }
     tally.removed = tally.removed.saturating_add(report.removed);
+}
+
+// Adds clauses that are drawn, runs the pass and compares.
+fn compare(
+    alloc: Global,
+    draw: &mut Draw,
+    kernel: &mut Kernel,
+    frozen: &Frozen,
+    limit: u64,
+    tally: &mut Tally,
+) -> Result<(), Fail> {
+    draw_clauses(alloc, draw, kernel)?;
+    let before = see(kernel);
+    let report = run(alloc, kernel, frozen, limit)?;
+    let fits = fits(kernel, frozen, limit, report, &before);
+    count(tally, report, fits);
     Ok(())
 }
 
-// Adds some clauses that are drawn, and learns one of one literal.
-fn draw_clauses(alloc: Global, draw: &mut Draw, kernel: &mut Kernel) -> Result<(), Fail> {
-    for _ in 0..draw.below(8) {
-        let lits = draw.literals(alloc)?;
-        add(alloc, kernel, lits.as_slice())?;
-    }
-    if let Some(form) = normal_form(alloc, &[draw.literal()?])? {
-        kernel.learn(form.as_slice(), 1)?;
-    }
-    Ok(())
-}
-
-// Draws a kernel with some frozen variables, and runs the pass with a small limit and with an
-// ample one; then adds clauses where they are clean, and runs it again.
-fn compare_drawn(alloc: Global, seed: u64, tally: &mut Tally) -> Result<(), Fail> {
+// Draws a kernel, and a frozen variable every other time, and runs the pass with no step, a small
+// limit and an ample one, with more clauses each time.
+fn compare_drawn(
+    alloc: Global,
+    seed: u64,
+    kernel: &mut Kernel,
+    frozen: &mut Frozen,
+    tally: &mut Tally,
+) -> Result<(), Fail> {
     let mut draw = Draw { state: seed };
+    draw_frozen(&mut draw, frozen)?;
+    compare(alloc, &mut draw, kernel, frozen, 0, tally)?;
+    let few = draw.below(40) as u64;
+    compare(alloc, &mut draw, kernel, frozen, few, tally)?;
+    compare(alloc, &mut draw, kernel, frozen, 1000, tally)
+}
+
+// Compares one kernel that is drawn.
+fn compare_one(alloc: Global, seed: u64, tally: &mut Tally) -> Result<(), Fail> {
     let mut kernel = Kernel::new(alloc);
     let mut frozen = Frozen::new(alloc);
-    if draw.below(2) == 0 {
-        frozen.freeze(draw.literal()?.var())?;
-    }
-    for limit in [0, draw.below(40) as u64, 1000] {
-        draw_clauses(alloc, &mut draw, &mut kernel)?;
-        compare(alloc, &mut kernel, &frozen, limit, tally)?;
+    compare_drawn(alloc, seed, &mut kernel, &mut frozen, tally)
+}
+
+// Compares all kernels that are drawn.
+fn compare_all(alloc: Global, tally: &mut Tally) -> Result<(), Fail> {
+    for seed in 0..KERNELS {
+        compare_one(alloc, seed, tally)?;
     }
     Ok(())
+}
+
+// Whether nothing was wrong, and enough runs ended each way.
+fn is_enough(tally: &Tally) -> bool {
+    tally.wrong == 0 && tally.fixpoints > 400 && tally.limits > 200 && tally.removed > 400
 }
 
 #[test]
 fn drawn_kernels(rt: HostRuntime) -> Result<(), Fail> {
-    let alloc = rt.alloc();
     let mut tally = Tally {
         fixpoints: 0,
         limits: 0,
         removed: 0,
         wrong: 0,
     };
-    for seed in 0..KERNELS {
-        compare_drawn(alloc, seed, &mut tally)?;
-    }
-    assert_eq!(rt; tally.wrong, 0);
-    assert!(rt; tally.fixpoints > 400 && tally.limits > 200 && tally.removed > 400);
+    compare_all(rt.alloc(), &mut tally)?;
+    assert!(rt; is_enough(&tally));
     Ok(())
 }
 
-// The literal of a number, true or false.
+// The literal of a number, true.
 fn nth(number: u32) -> Result<Lit, Fail> {
     Ok(Var::new(number).ok_or("no variable")?.positive())
 }
 
+// Adds what one literal implying another says.
+fn add_link(alloc: Global, kernel: &mut Kernel, from: Lit, to: Lit) -> Result<(), Fail> {
+    let link = [from.neg(), to];
+    add(alloc, kernel, &link)
+}
+
+// Adds a cycle of the first 300 variables.
+fn add_cycle(alloc: Global, kernel: &mut Kernel) -> Result<(), Fail> {
+    for number in 1..300u32 {
+        add_link(alloc, kernel, nth(number)?, nth(number.saturating_add(1))?)?;
+    }
+    add_link(alloc, kernel, nth(300)?, nth(1)?)
+}
+
+// Adds the clause of the first 600 variables.
+fn add_long(alloc: Global, kernel: &mut Kernel) -> Result<(), Fail> {
+    let mut all = Vec::new(alloc);
+    for number in 1..=600u32 {
+        all.push(nth(number)?)?;
+    }
+    add(alloc, kernel, all.as_slice())
+}
+
+// Runs the pass with no variable frozen.
+fn run_free(alloc: Global, kernel: &mut Kernel) -> Result<PassReport, Fail> {
+    let frozen = Frozen::new(alloc);
+    Ok(run(alloc, kernel, &frozen, 1_000_000)?)
+}
+
+// Whether the pass leaves one variable of the cycle, 1, in one clause.
+fn is_replaced(alloc: Global, kernel: &mut Kernel) -> Result<bool, Fail> {
+    add_cycle(alloc, kernel)?;
+    add_long(alloc, kernel)?;
+    let report = run_free(alloc, kernel)?;
+    let first = nth(1)?;
+    Ok(
+        report.ended == Ended::Fixpoint
+            && kernel.store().firm_ids().len() == 1
+            && kernel.store().occ(first).len() == 1
+            && kernel.stack().len() == 598,
+    )
+}
+
 #[test]
 fn a_long_cycle(rt: HostRuntime) -> Result<(), Fail> {
-    let alloc = rt.alloc();
-    let mut kernel = Kernel::new(alloc);
-    let mut all = Vec::new(alloc);
-    for number in 1..=300u32 {
-        let next = number % 300;
-        add(
-            alloc,
-            &mut kernel,
-            &[nth(number)?.neg(), nth(next.saturating_add(1))?],
-        )?;
-        all.push(nth(number)?)?;
-        all.push(nth(number.saturating_add(300))?)?;
-    }
-    add(alloc, &mut kernel, all.as_slice())?;
-    let frozen = Frozen::new(alloc);
-    let report = run(alloc, &mut kernel, &frozen, 1_000_000)?;
-    assert!(rt; report.ended == Ended::Fixpoint);
-    assert_eq!(rt; kernel.store().firm_ids().len(), 1);
-    assert_eq!(rt; kernel.stack().len(), 598);
-    assert_eq!(rt; kernel.store().occ(nth(1)?).len(), 1);
+    let mut kernel = Kernel::new(rt.alloc());
+    assert!(rt; is_replaced(rt.alloc(), &mut kernel)?);
     Ok(())
 }

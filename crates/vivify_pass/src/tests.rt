@@ -38,24 +38,50 @@ fn clause_of(alloc: Global, numbers: &[i32]) -> Result<Vec<Lit>, Fail> {
     Ok(lits)
 }
 
-// The firm clauses in brackets.
-fn text_of(alloc: Global, kernel: &Kernel) -> Result<String, Fail> {
-    let mut text = String::new(alloc);
-    for id in kernel.store().firm_ids() {
-        text.push_str("[")?;
-        for lit in kernel.store().get(*id) {
-            let word = format!(in alloc; " {}", lit.number())?;
-            text.push_str(word.as_str())?;
-        }
-        text.push_str(" ]")?;
-    }
-    Ok(text)
+// Adds the clause of some numbers.
+fn add_numbers(alloc: Global, kernel: &mut Kernel, numbers: &[i32]) -> Result<(), Fail> {
+    let lits = clause_of(alloc, numbers)?;
+    add(alloc, kernel, lits.as_slice())
 }
 
-// A kernel, and what the pass makes of it.
+// Learns the normal form of a clause.
+fn learn(alloc: Global, kernel: &mut Kernel, lits: &[Lit]) -> Result<(), Fail> {
+    if let Some(form) = normal_form(alloc, lits)? {
+        kernel.learn(form.as_slice(), 1)?;
+    }
+    Ok(())
+}
+
+// Writes a clause in brackets.
+fn write_clause(alloc: Global, text: &mut String, lits: &[Lit]) -> Result<(), Fail> {
+    text.push_str("[")?;
+    for lit in lits {
+        let word = format!(in alloc; " {}", lit.number())?;
+        text.push_str(word.as_str())?;
+    }
+    text.push_str(" ]")?;
+    Ok(())
+}
+
+// Writes the firm clauses.
+fn write_firm(alloc: Global, text: &mut String, kernel: &Kernel) -> Result<(), Fail> {
+    for id in kernel.store().firm_ids() {
+        write_clause(alloc, text, kernel.store().get(*id))?;
+    }
+    Ok(())
+}
+
+// Runs the pass with no variable frozen.
+fn run_free(alloc: Global, kernel: &mut Kernel, limit: u64) -> Result<PassReport, Fail> {
+    let frozen = Frozen::new(alloc);
+    Ok(run(alloc, kernel, &frozen, limit)?)
+}
+
+// A kernel, with a learned clause, and what the pass makes of it.
 #[derive(Drop)]
 struct Row {
     clauses: &'static [&'static [i32]],
+    learned: &'static [i32],
     limit: u64,
     text: &'static str,
     removed: u64,
@@ -66,6 +92,7 @@ const ROWS: &[Row] = &[
     // Where 1 is false, 2 is true, and so is 3: 4 is not needed.
     Row {
         clauses: &[&[1, 2], &[1, 3, 4], &[-2, 3]],
+        learned: &[5],
         limit: 1000,
         text: "[ 1 2 ][ 1 3 ][ -2 3 ]",
         removed: 1,
@@ -74,6 +101,7 @@ const ROWS: &[Row] = &[
     // Where 1 is false, 2 is false already, and is left out.
     Row {
         clauses: &[&[1, 2, 3], &[1, -2], &[4, 5]],
+        learned: &[5],
         limit: 1000,
         text: "[ 1 3 ][ 1 -2 ][ 4 5 ]",
         removed: 1,
@@ -83,14 +111,25 @@ const ROWS: &[Row] = &[
     // false.
     Row {
         clauses: &[&[1, 2, 3], &[1, 2, 4], &[1, 2, -4]],
+        learned: &[5],
         limit: 1000,
         text: "[ 1 2 ][ 1 2 ][ 1 2 ]",
         removed: 3,
         ended: Ended::Fixpoint,
     },
+    // A learned clause would let 2 go, and is not used.
+    Row {
+        clauses: &[&[1, 2, 3]],
+        learned: &[1, -2],
+        limit: 1000,
+        text: "[ 1 2 3 ]",
+        removed: 0,
+        ended: Ended::Fixpoint,
+    },
     // Nothing is propagated before the first literal is assumed.
     Row {
         clauses: &[&[1, 2], &[-1, 2]],
+        learned: &[5],
         limit: 1000,
         text: "[ 1 2 ][ -1 2 ]",
         removed: 0,
@@ -99,6 +138,7 @@ const ROWS: &[Row] = &[
     // No step is left.
     Row {
         clauses: &[&[1, 2], &[-1, 2]],
+        learned: &[5],
         limit: 0,
         text: "[ 1 2 ][ -1 2 ]",
         removed: 0,
@@ -107,6 +147,7 @@ const ROWS: &[Row] = &[
     // Where an empty clause is firm, nothing changes.
     Row {
         clauses: &[&[], &[1, 2], &[1, 3, 4], &[-2, 3]],
+        learned: &[5],
         limit: 0,
         text: "[ ][ 1 2 ][ 1 3 4 ][ -2 3 ]",
         removed: 0,
@@ -114,41 +155,46 @@ const ROWS: &[Row] = &[
     },
 ];
 
-#[test]
-fn small_kernels(rt: HostRuntime) -> Result<(), Fail> {
-    let alloc = rt.alloc();
-    let frozen = Frozen::new(alloc);
-    for row in ROWS {
-        let mut kernel = Kernel::new(alloc);
-        for numbers in row.clauses {
-            let lits = clause_of(alloc, *numbers)?;
-            add(alloc, &mut kernel, lits.as_slice())?;
-        }
-        let report = run(alloc, &mut kernel, &frozen, row.limit)?;
-        let text = text_of(alloc, &kernel)?;
-        assert_eq!(rt; text.as_str(), row.text);
-        assert_eq!(rt; report.removed, row.removed);
-        assert!(rt; report.ended == row.ended);
+// Makes the kernel of a row, runs the pass, and writes the firm clauses.
+fn run_row(
+    alloc: Global,
+    kernel: &mut Kernel,
+    row: &Row,
+    text: &mut String,
+) -> Result<PassReport, Fail> {
+    for numbers in row.clauses {
+        add_numbers(alloc, kernel, *numbers)?;
     }
-    Ok(())
+    let learned = clause_of(alloc, row.learned)?;
+    learn(alloc, kernel, learned.as_slice())?;
+    let report = run_free(alloc, kernel, row.limit)?;
+    write_firm(alloc, text, kernel)?;
+    Ok(report)
 }
 
-// A learned clause would let a literal go, and is not used.
-#[test]
-fn learned_clauses_are_not_used(rt: HostRuntime) -> Result<(), Fail> {
-    let alloc = rt.alloc();
-    let frozen = Frozen::new(alloc);
+// Whether the pass makes of the kernel of a row what the row says.
+fn is_right(alloc: Global, row: &Row) -> Result<bool, Fail> {
     let mut kernel = Kernel::new(alloc);
-    let lits = clause_of(alloc, &[1, 2, 3])?;
-    add(alloc, &mut kernel, lits.as_slice())?;
-    let pair = clause_of(alloc, &[1, -2])?;
-    if let Some(form) = normal_form(alloc, pair.as_slice())? {
-        kernel.learn(form.as_slice(), 1)?;
+    let mut text = String::new(alloc);
+    let report = run_row(alloc, &mut kernel, row, &mut text)?;
+    Ok(text.as_str() == row.text && report.removed == row.removed && report.ended == row.ended)
+}
+
+// How many rows come out right before one does not.
+fn right_rows(alloc: Global) -> Result<usize, Fail> {
+    let mut count: usize = 0;
+    for row in ROWS {
+        if !is_right(alloc, row)? {
+            return Ok(count);
+        }
+        count = count.saturating_add(1);
     }
-    let report = run(alloc, &mut kernel, &frozen, 1000)?;
-    let text = text_of(alloc, &kernel)?;
-    assert_eq!(rt; text.as_str(), "[ 1 2 3 ]");
-    assert_eq!(rt; report.removed, 0);
+    Ok(count)
+}
+
+#[test]
+fn small_kernels(rt: HostRuntime) -> Result<(), Fail> {
+    assert_eq!(rt; right_rows(rt.alloc())?, ROWS.len());
     Ok(())
 }
 
@@ -187,131 +233,165 @@ impl Draw {
             var.negative()
         })
     }
-
-    // Up to four literals.
-    fn literals(&mut self, alloc: Global) -> Result<Vec<Lit>, Fail> {
-        let mut lits = Vec::new(alloc);
-        for _ in 0..self.below(4).saturating_add(1) {
-            lits.push(self.literal()?)?;
-        }
-        Ok(lits)
-    }
 }
 
-// The values that the bits of a number give to the variables.
-fn model_of(alloc: Global, number: u32) -> Result<Vec<bool>, Fail> {
-    let mut model = Vec::new(alloc);
-    let mut rest = number;
-    for _ in 0..VARS {
-        model.push(rest % 2 == 1)?;
-        rest /= 2;
-    }
-    Ok(model)
+// Adds a clause of up to four literals that are drawn.
+fn draw_clause(alloc: Global, draw: &mut Draw, kernel: &mut Kernel) -> Result<(), Fail> {
+    let lits = [
+        draw.literal()?,
+        draw.literal()?,
+        draw.literal()?,
+        draw.literal()?,
+    ];
+    let len = draw.below(4) as usize + 1;
+    add(alloc, kernel, &lits[..len])
 }
 
-// Whether a model makes the firm clauses and those of the stack true.
-fn is_model(kernel: &Kernel, model: &[bool]) -> bool {
+// Adds some clauses that are drawn, and learns one of one literal.
+fn draw_clauses(alloc: Global, draw: &mut Draw, kernel: &mut Kernel) -> Result<(), Fail> {
+    for _ in 0..draw.below(8) {
+        draw_clause(alloc, draw, kernel)?;
+    }
+    let lit = draw.literal()?;
+    learn(alloc, kernel, &[lit])
+}
+
+// Whether the values that the bits of a number give to the variables make the firm clauses true.
+fn is_model(kernel: &Kernel, bits: u32) -> bool {
+    let model = [
+        bits % 2 == 1,
+        bits / 2 % 2 == 1,
+        bits / 4 % 2 == 1,
+        bits / 8 % 2 == 1,
+        bits / 16 % 2 == 1,
+    ];
     for id in kernel.store().firm_ids() {
-        if !clause_true(model, kernel.store().get(*id)) {
-            return false;
-        }
-    }
-    for k in 0..kernel.stack().len() {
-        if !clause_true(model, kernel.stack().clause(k)) {
+        if !clause_true(&model, kernel.store().get(*id)) {
             return false;
         }
     }
     true
 }
 
-// For each assignment whether it makes the firm clauses and those of the stack true.
-fn models(alloc: Global, kernel: &Kernel) -> Result<Vec<bool>, Fail> {
-    let mut all = Vec::new(alloc);
-    for number in 0..32 {
-        let model = model_of(alloc, number)?;
-        all.push(is_model(kernel, model.as_slice()))?;
+// The assignments that make the firm clauses true, a bit for each.
+fn models(kernel: &Kernel) -> u32 {
+    let mut all: u32 = 0;
+    for bits in 0..32 {
+        let bit = if is_model(kernel, bits) { 1 } else { 0 };
+        all = all.wrapping_mul(2).wrapping_add(bit);
     }
-    Ok(all)
+    all
 }
 
-// Whether a literal stands in a list.
-fn is_among(lits: &[Lit], lit: Lit) -> bool {
-    lits.iter().any(|other| *other == lit)
+// A set of literals of the drawn variables: a place for each literal's code, which is below 12.
+type Lits = [bool; 12];
+
+// Whether a literal is in a set.
+fn has(set: &Lits, lit: Lit) -> bool {
+    let at = lit.code() as usize;
+    at < set.len() && set[at]
 }
 
-// Whether the negation of each literal but one is among those that are true. That one may be any:
-// `None` asks for all.
-fn are_false_but(on: &[Lit], lits: &[Lit], but: Option<Lit>) -> bool {
+// Puts a literal into a set.
+fn put(set: &mut Lits, lit: Lit) {
+    let at = lit.code() as usize;
+    if at < set.len() {
+        set[at] = true;
+    }
+}
+
+// Whether one of some literals is in a set.
+fn has_one(set: &Lits, lits: &[Lit]) -> bool {
     for lit in lits {
-        if but != Some(*lit) && !is_among(on, lit.neg()) {
-            return false;
-        }
-    }
-    true
-}
-
-// Adds the literals of a clause whose other literals are all false.
-fn follow(on: &mut Vec<Lit>, lits: &[Lit]) -> Result<(), Fail> {
-    for lit in lits {
-        if !is_among(on.as_slice(), *lit) && are_false_but(on.as_slice(), lits, Some(*lit)) {
-            on.push(*lit)?;
-        }
-    }
-    Ok(())
-}
-
-// Whether a firm clause but that of an id is false.
-fn fails(kernel: &Kernel, id: ClauseId, on: &[Lit]) -> bool {
-    for other in kernel.store().firm_ids() {
-        if *other != id && are_false_but(on, kernel.store().get(*other), None) {
+        if has(set, *lit) {
             return true;
         }
     }
     false
 }
 
-// What unit propagation over the firm clauses but that of an id makes true, until one is false or
-// nothing more follows.
-fn propagate(kernel: &Kernel, id: ClauseId, on: &mut Vec<Lit>) -> Result<(), Fail> {
+// How many of a clause's literals are not false where those of a set are true.
+fn open_count(on: &Lits, lits: &[Lit]) -> u32 {
+    let mut open: u32 = 0;
+    for lit in lits {
+        if has(on, lit.neg()) {
+            continue;
+        }
+        open = open.saturating_add(1);
+    }
+    open
+}
+
+// Makes the last literal of a clause true whose other literals are false.
+fn follow(on: &mut Lits, lits: &[Lit]) {
+    if open_count(on, lits) != 1 {
+        return;
+    }
+    for lit in lits {
+        if has(on, lit.neg()) {
+            continue;
+        }
+        put(on, *lit);
+    }
+}
+
+// Makes true what follows from one firm clause after the other, but that of an id.
+fn follow_all(kernel: &Kernel, id: ClauseId, on: &mut Lits) {
+    for other in kernel.store().firm_ids() {
+        if *other == id {
+            continue;
+        }
+        follow(on, kernel.store().get(*other));
+    }
+}
+
+// Makes true what unit propagation makes true: one round for each literal is enough.
+fn propagate(kernel: &Kernel, id: ClauseId, on: &mut Lits) {
     for _ in 0..2 * VARS {
-        for other in kernel.store().firm_ids() {
-            if *other != id && !fails(kernel, id, on.as_slice()) {
-                follow(on, kernel.store().get(*other))?;
-            }
+        follow_all(kernel, id, on);
+    }
+}
+
+// Whether a firm clause but that of an id is false.
+fn fails(kernel: &Kernel, id: ClauseId, on: &Lits) -> bool {
+    for other in kernel.store().firm_ids() {
+        if *other != id && open_count(on, kernel.store().get(*other)) == 0 {
+            return true;
         }
     }
-    Ok(())
+    false
 }
 
 // How many literals the rule makes of a clause.
-fn length_made(alloc: Global, kernel: &Kernel, id: ClauseId, lits: &[Lit]) -> Result<usize, Fail> {
-    let mut on = Vec::new(alloc);
+fn length_made(kernel: &Kernel, id: ClauseId, lits: &[Lit]) -> usize {
+    let mut on = [false; 12];
     let mut assumed: usize = 0;
     for lit in lits {
-        if !is_among(on.as_slice(), lit.neg()) {
-            on.push(lit.neg())?;
-            assumed = assumed.saturating_add(1);
-            propagate(kernel, id, &mut on)?;
-            if fails(kernel, id, on.as_slice()) {
-                return Ok(assumed);
-            }
-            if lits.iter().any(|other| is_among(on.as_slice(), *other)) {
-                return Ok(assumed.saturating_add(1));
-            }
+        if has(&on, lit.neg()) {
+            continue;
+        }
+        put(&mut on, lit.neg());
+        propagate(kernel, id, &mut on);
+        assumed = assumed.saturating_add(1);
+        if fails(kernel, id, &on) {
+            return assumed;
+        }
+        if has_one(&on, lits) {
+            return assumed.saturating_add(1);
         }
     }
-    Ok(assumed)
+    assumed
 }
 
 // Whether the rule shortens no firm clause.
-fn is_fixpoint(alloc: Global, kernel: &Kernel) -> Result<bool, Fail> {
+fn is_fixpoint(kernel: &Kernel) -> bool {
     for id in kernel.store().firm_ids() {
         let lits = kernel.store().get(*id);
-        if length_made(alloc, kernel, *id, lits)? < lits.len() {
-            return Ok(false);
+        if length_made(kernel, *id, lits) < lits.len() {
+            return false;
         }
     }
-    Ok(true)
+    true
 }
 
 // How many literals the firm clauses have.
@@ -326,21 +406,21 @@ fn literals(kernel: &Kernel) -> u64 {
 // What of a kernel is compared before and after the pass.
 #[derive(Drop)]
 struct Seen {
-    models: Vec<bool>,
+    models: u32,
     literals: u64,
     redundant: usize,
     entries: usize,
     removals: u64,
 }
 
-fn see(alloc: Global, kernel: &Kernel) -> Result<Seen, Fail> {
-    Ok(Seen {
-        models: models(alloc, kernel)?,
+fn see(kernel: &Kernel) -> Seen {
+    Seen {
+        models: models(kernel),
         literals: literals(kernel),
         redundant: kernel.store().redundant_ids().len(),
         entries: kernel.stack().len(),
         removals: kernel.removals(),
-    })
+    }
 }
 
 // Whether the end fits: a fixpoint, or the limit, which was too small, with literals gone for its
@@ -374,23 +454,18 @@ struct Tally {
     wrong: u64,
 }
 
-// Runs the pass and compares.
-fn compare(
-    alloc: Global,
-    kernel: &mut Kernel,
-    frozen: &Frozen,
-    limit: u64,
-    tally: &mut Tally,
-) -> Result<(), Fail> {
-    let before = see(alloc, kernel)?;
-    let report = run(alloc, kernel, frozen, limit)?;
-    let after = see(alloc, kernel)?;
-    let is_fixpoint = is_fixpoint(alloc, kernel)?;
-    let fits = ends_well(is_fixpoint, limit, report, &before, &after)
+// Whether what came out of a run fits what was there before.
+fn fits(kernel: &Kernel, limit: u64, report: PassReport, before: &Seen) -> bool {
+    let after = see(kernel);
+    ends_well(is_fixpoint(kernel), limit, report, before, &after)
         && before.models == after.models
         && before.redundant == after.redundant
         && before.entries == after.entries
-        && before.removals.saturating_add(report.removed) == after.removals;
+        && before.removals.saturating_add(report.removed) == after.removals
+}
+
+// Counts a run.
+fn count(tally: &mut Tally, report: PassReport, fits: bool) {
     if !fits {
         tally.wrong = tally.wrong.saturating_add(1);
     }
@@ -399,48 +474,63 @@ fn compare(
         Ended::Limit(_) => tally.limits = tally.limits.saturating_add(1),
     }
     tally.removed = tally.removed.saturating_add(report.removed);
-    Ok(())
 }
 
-// Adds some clauses that are drawn, and learns one of one literal.
-fn draw_clauses(alloc: Global, draw: &mut Draw, kernel: &mut Kernel) -> Result<(), Fail> {
-    for _ in 0..draw.below(8) {
-        let lits = draw.literals(alloc)?;
-        add(alloc, kernel, lits.as_slice())?;
-    }
-    if let Some(form) = normal_form(alloc, &[draw.literal()?])? {
-        kernel.learn(form.as_slice(), 1)?;
-    }
+// Adds clauses that are drawn, runs the pass and compares.
+fn compare(
+    alloc: Global,
+    draw: &mut Draw,
+    kernel: &mut Kernel,
+    limit: u64,
+    tally: &mut Tally,
+) -> Result<(), Fail> {
+    draw_clauses(alloc, draw, kernel)?;
+    let before = see(kernel);
+    let report = run_free(alloc, kernel, limit)?;
+    let fits = fits(kernel, limit, report, &before);
+    count(tally, report, fits);
     Ok(())
 }
 
 // Draws a kernel with a learned clause, and runs the pass with no step, a small limit and an
 // ample one, with more clauses each time.
-fn compare_drawn(alloc: Global, seed: u64, tally: &mut Tally) -> Result<(), Fail> {
+fn compare_drawn(
+    alloc: Global,
+    seed: u64,
+    kernel: &mut Kernel,
+    tally: &mut Tally,
+) -> Result<(), Fail> {
     let mut draw = Draw { state: seed };
-    let mut kernel = Kernel::new(alloc);
-    let frozen = Frozen::new(alloc);
-    for limit in [0, draw.below(40) as u64, 1000] {
-        draw_clauses(alloc, &mut draw, &mut kernel)?;
-        compare(alloc, &mut kernel, &frozen, limit, tally)?;
+    compare(alloc, &mut draw, kernel, 0, tally)?;
+    let few = draw.below(40) as u64;
+    compare(alloc, &mut draw, kernel, few, tally)?;
+    compare(alloc, &mut draw, kernel, 1000, tally)
+}
+
+// Compares all kernels that are drawn.
+fn compare_all(alloc: Global, tally: &mut Tally) -> Result<(), Fail> {
+    for seed in 0..KERNELS {
+        let mut kernel = Kernel::new(alloc);
+        compare_drawn(alloc, seed, &mut kernel, tally)?;
     }
     Ok(())
 }
 
+// Whether nothing was wrong, and enough runs ended each way.
+fn is_enough(tally: &Tally) -> bool {
+    tally.wrong == 0 && tally.fixpoints > 200 && tally.limits > 150 && tally.removed > 150
+}
+
 #[test]
 fn drawn_kernels(rt: HostRuntime) -> Result<(), Fail> {
-    let alloc = rt.alloc();
     let mut tally = Tally {
         fixpoints: 0,
         limits: 0,
         removed: 0,
         wrong: 0,
     };
-    for seed in 0..KERNELS {
-        compare_drawn(alloc, seed, &mut tally)?;
-    }
-    assert_eq!(rt; tally.wrong, 0);
-    assert!(rt; tally.fixpoints > 200 && tally.limits > 150 && tally.removed > 150);
+    compare_all(rt.alloc(), &mut tally)?;
+    assert!(rt; is_enough(&tally));
     Ok(())
 }
 
@@ -449,34 +539,45 @@ fn nth(number: u32) -> Result<Lit, Fail> {
     Ok(Var::new(number).ok_or("no variable")?.positive())
 }
 
-// A clause of 300 literals whose first one implies the 30th, over a chain of 28 clauses.
-#[test]
-fn a_long_clause(rt: HostRuntime) -> Result<(), Fail> {
-    let alloc = rt.alloc();
-    let frozen = Frozen::new(alloc);
-    let mut kernel = Kernel::new(alloc);
+// Adds the clause of the first 300 variables.
+fn add_long(alloc: Global, kernel: &mut Kernel) -> Result<(), Fail> {
     let mut all = Vec::new(alloc);
     for number in 1..=300u32 {
         all.push(nth(number)?)?;
     }
-    add(alloc, &mut kernel, all.as_slice())?;
-    for number in 301..=330u32 {
-        let last = if number == 330 {
-            nth(30)?
-        } else {
-            nth(number.saturating_add(1))?
-        };
-        let first = if number == 301 {
-            nth(1)?
-        } else {
-            nth(number)?.neg()
-        };
-        add(alloc, &mut kernel, &[first, last])?;
+    add(alloc, kernel, all.as_slice())
+}
+
+// Adds a chain of clauses by which 30 is true where 1 is false.
+fn add_chain(alloc: Global, kernel: &mut Kernel) -> Result<(), Fail> {
+    let first = [nth(1)?, nth(301)?];
+    add(alloc, kernel, &first)?;
+    for number in 301..330u32 {
+        let link = [nth(number)?.neg(), nth(number.saturating_add(1))?];
+        add(alloc, kernel, &link)?;
     }
-    let report = run(alloc, &mut kernel, &frozen, 1_000_000)?;
-    assert!(rt; report.ended == Ended::Fixpoint);
-    assert_eq!(rt; report.removed, 1);
-    assert_eq!(rt; kernel.store().occ(nth(30)?).len(), 2);
-    assert_eq!(rt; kernel.store().occ(nth(2)?).len(), 0);
+    let last = [nth(330)?.neg(), nth(30)?];
+    add(alloc, kernel, &last)
+}
+
+// In how many clauses the literal of a number stands.
+fn uses(kernel: &Kernel, number: u32) -> Result<usize, Fail> {
+    Ok(kernel.store().occ(nth(number)?).len())
+}
+
+// Whether the pass leaves two literals of the long clause, 1 and 30.
+fn is_shortened(alloc: Global, kernel: &mut Kernel) -> Result<bool, Fail> {
+    add_long(alloc, kernel)?;
+    add_chain(alloc, kernel)?;
+    let report = run_free(alloc, kernel, 1_000_000)?;
+    let stay = uses(kernel, 30)?;
+    let gone = uses(kernel, 2)?;
+    Ok(report.ended == Ended::Fixpoint && report.removed == 1 && stay == 2 && gone == 0)
+}
+
+#[test]
+fn a_long_clause(rt: HostRuntime) -> Result<(), Fail> {
+    let mut kernel = Kernel::new(rt.alloc());
+    assert!(rt; is_shortened(rt.alloc(), &mut kernel)?);
     Ok(())
 }
