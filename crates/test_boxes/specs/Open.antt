@@ -1,6 +1,6 @@
 -- What boxes mean that have no clause: those that admit everything, and the one that admits
 -- nothing.
-use Rattle.std.specs.Prelude.{ℕ, ◌≡◌, ◌≤◌, ◌++◌, Bool, true, false, List, [], length}
+use Rattle.std.specs.Prelude.{ℕ, ◌≡◌, ◌≤◌, ◌++◌, true, false, List, [], length}
 use Rattle.user_propagator.specs.Board.{Board}
 use Rattle.user_propagator.specs.Meaning.{Meaning}
 

@@ -1,6 +1,6 @@
 -- What a box means that knows one clause of two literals.
 use Rattle.std.specs.Prelude.{ℕ, ◌%◌, not, ◌≡◌, ◌||◌, ◌&&◌, ◌==◌, Bool, true, false}
-use Rattle.std.specs.Prelude.{List, ◌∷◌, [], ◌++◌, Option, Some, None}
+use Rattle.std.specs.Prelude.{List, ◌∷◌, [], Option, Some, None}
 use Rattle.std.proofs.Common.{ap, ◌∙◌, refl, sym, inl, inr, eqb}
 use Rattle.std.proofs.lemmas.Bool.{cases_Bool, eq-eqb, or_left, or_right}
 use Rattle.sat_terms.specs.Literal.{has, neg, var_of}
