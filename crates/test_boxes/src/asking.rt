@@ -1,4 +1,22 @@
 //! A box that wants to observe a variable in the middle of a search.
+//!
+//! A propagator may find out late which variables it has to see, and asks for one in a callback.
+//! Whoever drives it must then observe the variable, tell the literal of it that is on the trail
+//! already, and ask once more about a model that this variable was not yet part of. A box for such
+//! a test has to ask once, at a known moment, and to do nothing else that a test would see.
+//!
+//! The box holds its variable until it has asked for it. At each `propagate` and each `check` it
+//! looks whether this is its moment and whether the variable is still there; then it leaves the
+//! request on its desk and lets the variable go. Where the desk has no memory for the request, the
+//! callback answers `Memory` and the variable stays, so that the next callback of that kind asks.
+//! At a model it accepts all the same: what it admits is every assignment, whatever it observes.
+//!
+//! It is not steady. A steady propagator asks for nothing in a callback, since whoever drives it
+//! may rely on the observed variables to stay as they are; so this is the box that shows what the
+//! laws leave to propagators that are not. Its scope is empty, and it explains nothing.
+//!
+//! The tests show that the variable is asked for at the first callback of the named kind, and at
+//! no other one before or after.
 ghost use Rattle.std.specs.Prelude.{◌≡◌, ℕ, refl, OnOk, OnErr};
 ghost use Rattle.user_propagator.specs.Meaning.{Admitted, Refused, KeptByAdmit, CalledBack};
 ghost use Rattle.user_propagator.specs.Meaning.{StandsAt, IsReasonGiven};
