@@ -6,7 +6,7 @@
 //!
 //! A member that is taken out stays on that list: its flag says so, and it isn't listed again when it comes back. So the list is never
 //! longer than the flags, however often members come and go. (A set whose members are to be gone through is a `WorkList`.)
-ghost use Rattle.std.specs.Prelude.{◌≡◌, ◌<◌, ◌≤◌, ◌^◌, ◌||◌, ◌&&◌, ◌==◌, ℕ, true, false, not, length, ◌+◌, ◌++◌, ◌∷◌, [], if◌then◌else◌, OnOk, OnErr, All};
+ghost use Rattle.std.specs.Prelude.{◌≡◌, ◌<◌, ◌≤◌, ◌^◌, ◌||◌, ◌&&◌, ◌==◌, ◌↔◌, ℕ, true, false, not, length, ◌+◌, ◌++◌, ◌∷◌, [], if◌then◌else◌, OnOk, OnErr, IsTrue, All};
 ghost use Rattle.std.specs.Vec.{vec_len, vec_capacity};
 ghost use Rattle.flag_set.specs.Flags.{holds};
 ghost use Rattle.flag_set.specs.Listed.{flag, is_in as flag_is_in, is_listed as flag_is_listed, lists};
@@ -152,6 +152,37 @@ impl<T: Member> FlagSet<T> {
         if at < self.flags.len() && is_in(self.flags[at]) {
             self.flags[at] = Flag::Left;
         }
+    }
+
+    // Whether each member is in another set too.
+    fn is_within(&self, other: &FlagSet<T>) -> bool
+        ensures { IsTrue result ↔ ((n : ℕ) → holds self.now n ≡ true → holds other.now n ≡ true) }
+    {
+        for member in self.listed.as_slice() {
+            if self.has(*member) && !other.has(*member) {
+                return false;
+            }
+        }
+        true
+    }
+
+    /// Whether two sets have the same members. It costs as many steps as members came to both since these were new or cleared.
+    pub fn is_same(&self, other: &FlagSet<T>) -> bool
+        ensures { IsTrue result ↔ ((n : ℕ) → holds self.now n ≡ holds other.now n) }
+    {
+        self.is_within(other) && other.is_within(self)
+    }
+
+    /// Puts the members of another set into the set. After `Memory` some of them came.
+    pub fn put_all(&mut self, other: &FlagSet<T>) -> Result<(), Memory>
+        ensures { OnOk result ((n : ℕ) → holds self.new n ≡ (holds self.old n || holds other.now n)) }
+    {
+        for member in other.listed.as_slice() {
+            if other.has(*member) {
+                self.put(*member)?;
+            }
+        }
+        Ok(())
     }
 
     /// Takes all members out of the set. It costs as many steps as members came since the set was new or cleared.
