@@ -99,7 +99,8 @@ impl Arena {
 
     // A number above every id that names a clause.
     pub(crate) fn id_bound(&self) -> usize
-        ensures { (id : ℕ) → IsSome (slot self.now.clauses id) → id < result }
+        ensures bound { (id : ℕ) → IsSome (slot self.now.clauses id) → id < result }
+        ensures count { result ≡ length self.now.clauses }
     {
         self.places.len()
     }

@@ -6,7 +6,7 @@
 //!
 //! A member that is taken out stays on that list: its flag says so, and it isn't listed again when it comes back. So the list is never
 //! longer than the flags, however often members come and go. (A set whose members are to be gone through is a `WorkList`.)
-ghost use Rattle.std.specs.Prelude.{◌≡◌, ◌<◌, ◌≤◌, ◌^◌, ◌||◌, ◌&&◌, ◌==◌, ℕ, true, false, not, length, ◌+◌, ◌++◌, ◌∷◌, [], if◌then◌else◌, OnOk, OnErr, All};
+ghost use Rattle.std.specs.Prelude.{◌≡◌, ◌<◌, ◌≤◌, ◌^◌, ◌||◌, ◌&&◌, ◌==◌, ◌↔◌, ℕ, true, false, not, length, ◌+◌, ◌++◌, ◌∷◌, [], if◌then◌else◌, OnOk, OnErr, IsTrue, All};
 ghost use Rattle.std.specs.Vec.{vec_len, vec_capacity};
 ghost use Rattle.flag_set.specs.Flags.{holds};
 ghost use Rattle.flag_set.specs.Listed.{flag, is_in as flag_is_in, is_listed as flag_is_listed, lists};
@@ -108,6 +108,19 @@ fn lower_all<T: Member>(flags: &mut Vec<Flag>, listed: &[T])
     }
 }
 
+// Whether those of some members whose flags say that they are in are in a set too.
+fn are_in<T: Member>(members: &[T], flags: &[Flag], other: &FlagSet<T>) -> bool
+    ensures { IsTrue result ↔ ((n : ℕ) → lists T.number_of members.now n ≡ true → flag_is_in (flag flags.now n) ≡ true → holds other.now n ≡ true) }
+{
+    for member in members {
+        let at = member.number();
+        if at < flags.len() && is_in(flags[at]) && !other.has(*member) {
+            return false;
+        }
+    }
+    true
+}
+
 impl<T: Member> FlagSet<T> {
     /// The empty set. It takes no memory.
     pub fn new(alloc: Global) -> FlagSet<T>
@@ -155,6 +168,42 @@ impl<T: Member> FlagSet<T> {
         if at < self.flags.len() && is_in(self.flags[at]) {
             self.flags[at] = Flag::Left;
         }
+    }
+
+    // Whether each member is in another set too.
+    fn is_within(&self, other: &FlagSet<T>) -> bool
+        ensures { IsTrue result ↔ ((n : ℕ) → holds self.now n ≡ true → holds other.now n ≡ true) }
+    {
+        are_in(self.listed.as_slice(), self.flags.as_slice(), other)
+    }
+
+    /// Whether two sets have the same members. It costs as many steps as members came to both since these were new or cleared.
+    pub fn is_same(&self, other: &FlagSet<T>) -> bool
+        ensures { IsTrue result ↔ ((n : ℕ) → holds self.now n ≡ holds other.now n) }
+    {
+        self.is_within(other) && other.is_within(self)
+    }
+
+    // Puts those of some members into the set whose flags say that they are in. After `Memory` some of them came.
+    fn put_each(&mut self, members: &[T], flags: &[Flag]) -> Result<(), Memory>
+        ensures more { (n : ℕ) → holds self.old n ≡ true → holds self.new n ≡ true }
+        ensures came { OnOk result ((n : ℕ) → lists T.number_of members.now n ≡ true → flag_is_in (flag flags.now n) ≡ true → holds self.new n ≡ true) }
+        ensures only { (n : ℕ) → holds self.new n ≡ true → (holds self.old n || flag_is_in (flag flags.now n)) ≡ true }
+    {
+        for member in members {
+            let at = member.number();
+            if at < flags.len() && is_in(flags[at]) {
+                self.put(*member)?;
+            }
+        }
+        Ok(())
+    }
+
+    /// Puts the members of another set into the set. After `Memory` some of them came.
+    pub fn put_all(&mut self, other: &FlagSet<T>) -> Result<(), Memory>
+        ensures { OnOk result ((n : ℕ) → holds self.new n ≡ (holds self.old n || holds other.now n)) }
+    {
+        self.put_each(other.listed.as_slice(), other.flags.as_slice())
     }
 
     /// Takes all members out of the set. It costs as many steps as members came since the set was new or cleared.

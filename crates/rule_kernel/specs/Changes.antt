@@ -1,7 +1,8 @@
 -- What is marked as changed: variables and literals.
 use Rattle.std.specs.List.{list_any}
-use Rattle.std.specs.Prelude.{◌≡◌, ◌<◌, ◌≤◌, ◌*◌, ◌==◌, ◌||◌, ℕ, Bool, true, List}
+use Rattle.std.specs.Prelude.{◌≡◌, ◌<◌, ◌==◌, ◌||◌, ℕ, Bool, true, List}
 use Rattle.sat_terms.specs.Literal.{has, neg, var_of}
+use Rattle.firm_terms.specs.Firm.{mentions}
 
 -- the marked variables and the marked literals, each once
 pub record Marked : Type 0 where
@@ -17,10 +18,7 @@ pub record Markable : Type 0 where
 abbrev pub marked : Markable → Marked
 marked m = record { vars = m.vars; lits = m.lits }
 
--- whether a clause holds a literal of a variable, and whether it holds the negation of a literal
-abbrev pub mentions : List ℕ → ℕ → Bool
-mentions c v = list_any (λ l. var_of l == v) c
-
+-- whether a clause holds the negation of a literal
 abbrev pub denies : List ℕ → ℕ → Bool
 denies c l = list_any (λ x. neg x == l) c
 

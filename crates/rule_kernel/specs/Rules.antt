@@ -9,6 +9,8 @@ use Rattle.redundancy.specs.Redundancy.{Entry, Witnesses, Clean, StackTrue, entr
 use Rattle.clause_store.specs.declared.stored.Keep.TheVariants.{Firm, Redundant}
 use Rattle.clause_store.specs.Stored.{Stored, slot, slot_lits, is_firm, is_redundant, FirmTrue, OthersTrue, Fills, Frees}
 use Rattle.rule_kernel.specs.Changes.{MarksCame, MarksWent}
+use Rattle.rule_kernel.specs.Waiting.{Waits, Leaves}
+use Rattle.rule_kernel.specs.Settled.{unsettled}
 use Rattle.rule_kernel.specs.State.{State, IsChained}
 
 -- one more, up to a bound
@@ -28,7 +30,7 @@ pub record SameRest (old new : State) : Type 0 where
   pub removals : new.removals ≡ old.removals
   pub restores : new.restores ≡ old.restores
 
--- all but the marks stays: the store, the stack and both counts
+-- all stays but what is marked, what waits, and what is settled: the store, the stack and both counts
 pub record SameButMarks (old new : State) : Type 0 where
   pub store : new.store ≡ old.store
   pub rest : SameRest old new
@@ -40,6 +42,8 @@ pub record Adds (old new : State) (lits : List ℕ) (id : ℕ) : Type 0 where
   pub store : Fills old.store new.store id (firm_clause lits)
   pub rest : SameRest old new
   pub marks : MarksCame old.marked new.marked lits
+  pub waits : Waits old.waiting new.waiting id
+  pub settled : new.settled ≡ unsettled old.settled
 
 -- A normal clause that the firm clauses imply comes to them.
 pub record AddsImplied (old new : State) (lits : List ℕ) (id : ℕ) : Type 0 where
@@ -48,6 +52,8 @@ pub record AddsImplied (old new : State) (lits : List ℕ) (id : ℕ) : Type 0 w
   pub store : Fills old.store new.store id (firm_clause lits)
   pub rest : SameRest old new
   pub marks : MarksCame old.marked new.marked lits
+  pub waits : Waits old.waiting new.waiting id
+  pub settled : new.settled ≡ unsettled old.settled
 
 -- A firm clause that the others imply goes.
 pub record DropsImplied (old new : State) (id : ℕ) : Type 0 where
@@ -58,6 +64,8 @@ pub record DropsImplied (old new : State) (id : ℕ) : Type 0 where
   pub removals : new.removals ≡ counted old.removals
   pub restores : new.restores ≡ old.restores
   pub marks : MarksWent old.marked new.marked (slot_lits (slot old.store id))
+  pub leaves : Leaves old.waiting new.waiting id
+  pub settled : new.settled ≡ old.settled
 
 -- A firm clause goes to the end of the stack, with a witness that witnesses it for the other firm clauses.
 pub record Parks (old new : State) (id : ℕ) (witness : List ℕ) : Type 0 where
@@ -68,6 +76,8 @@ pub record Parks (old new : State) (id : ℕ) (witness : List ℕ) : Type 0 wher
   pub removals : new.removals ≡ counted old.removals
   pub restores : new.restores ≡ old.restores
   pub marks : MarksWent old.marked new.marked (slot_lits (slot old.store id))
+  pub leaves : Leaves old.waiting new.waiting id
+  pub settled : new.settled ≡ old.settled
 
 -- An entry goes from the stack, and its clause, which is clean for the later entries, comes to the firm clauses.
 pub record Restores (old new : State) (k id : ℕ) : Type 0 where
@@ -78,6 +88,8 @@ pub record Restores (old new : State) (k id : ℕ) : Type 0 where
   pub removals : new.removals ≡ old.removals
   pub restores : new.restores ≡ counted old.restores
   pub marks : MarksCame old.marked new.marked (entry old.stack k).clause
+  pub waits : Waits old.waiting new.waiting id
+  pub settled : new.settled ≡ unsettled old.settled
 
 -- A normal clause comes to the redundant ones.
 pub record Learns (old new : State) (lits : List ℕ) (glue id : ℕ) : Type 0 where
@@ -85,6 +97,8 @@ pub record Learns (old new : State) (lits : List ℕ) (glue id : ℕ) : Type 0 w
   pub store : Fills old.store new.store id (redundant_clause lits glue)
   pub rest : SameRest old new
   pub marks : new.marked ≡ old.marked
+  pub waiting : new.waiting ≡ old.waiting
+  pub settled : new.settled ≡ old.settled
 
 -- A redundant clause goes.
 pub record Forgets (old new : State) (id : ℕ) : Type 0 where
@@ -92,6 +106,8 @@ pub record Forgets (old new : State) (id : ℕ) : Type 0 where
   pub store : Frees old.store new.store id
   pub rest : SameRest old new
   pub marks : new.marked ≡ old.marked
+  pub waiting : new.waiting ≡ old.waiting
+  pub settled : new.settled ≡ old.settled
 
 -- a rule with its arguments and, where a clause comes, the id that it gets
 pub data Rule : Type 0 where

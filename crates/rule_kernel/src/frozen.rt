@@ -2,7 +2,7 @@
 //!
 //! A witness on a variable that the caller may still ask for, by an assumption or in a new clause, would have its entry restored at once:
 //! so such a variable is frozen for a pass.
-ghost use Rattle.std.specs.Prelude.{◌≡◌, ◌||◌, ◌==◌, ℕ, false, OnErr, OnOk};
+ghost use Rattle.std.specs.Prelude.{◌≡◌, ◌||◌, ◌==◌, ◌↔◌, ℕ, false, OnErr, OnOk, IsTrue};
 ghost use Rattle.rule_kernel.specs.Frozen.{is_frozen};
 
 use flag_set::set::FlagSet;
@@ -49,6 +49,21 @@ impl Frozen {
         ensures err { OnErr result (self.new ≡ self.old) }
     {
         self.vars.put(var)
+    }
+
+    /// Whether two sets have the same variables. It costs as many steps as variables were frozen in both since these were new or cleared.
+    pub fn is_same(&self, other: &Frozen) -> bool
+        ensures { IsTrue result ↔ ((v : ℕ) → is_frozen self.now v ≡ is_frozen other.now v) }
+    {
+        self.vars.is_same(&other.vars)
+    }
+
+    // Takes the variables of another set in place of its own. After `Memory` it may have any part of them.
+    pub(crate) fn copy_from(&mut self, other: &Frozen) -> Result<(), Memory>
+        ensures { OnOk result ((v : ℕ) → is_frozen self.new v ≡ is_frozen other.now v) }
+    {
+        self.vars.clear();
+        self.vars.put_all(&other.vars)
     }
 
     /// Takes all variables out of the set. It costs as many steps as variables were frozen since it was new or cleared.

@@ -16,18 +16,29 @@
 //! - `learn` and `forget` touch no firm clause.
 //!
 //! No search and no pass changes firm clauses but by these rules, so none of them need speak of the chain.
-ghost use Rattle.std.specs.Prelude.{◌≡◌, ◌+◌, ◌<◌, ◌≤◌, ◌↔◌, ◌==◌, ◌&&◌, ℕ, not, [], true, length, drop, min, ◌^◌, slice_index_or, IfOk, OnOk, OnErr, IsTrue};
+ghost use Rattle.std.specs.Prelude.{◌≡◌, ◌≢◌, ◌+◌, ◌<◌, ◌≤◌, ◌↔◌, ◌==◌, ◌&&◌, ℕ, not, [], true, false, length, drop, min, ◌^◌, slice_index_or, IfOk, OnOk, OnErr, IsTrue};
 ghost use Rattle.std.specs.List.{swap_remove};
 ghost use Rattle.sat_terms.specs.Literal.{has};
 ghost use Rattle.sat_terms.specs.Truth.{values, Implies};
 ghost use Rattle.sat_terms.specs.Normal.{IsNormal};
 ghost use Rattle.redundancy.specs.Redundancy.{entry, Clean, Witnesses, StackTrue, StackWithin, extend as extension};
 ghost use Rattle.clause_store.specs.Stored.{slot, slot_lits, is_firm, is_redundant, FirmTrue, OthersTrue, Fills, Frees, SameSlots};
+ghost use Rattle.firm_terms.specs.Firm.{firm as firm_clauses};
+ghost use Rattle.firm_terms.specs.Resolving.{candidate, BlocksNone};
+ghost use Rattle.firm_terms.specs.Subsuming.{IsFree, IsDone};
+ghost use Rattle.firm_terms.specs.Implying.{NoEquivalents};
+ghost use Rattle.firm_terms.specs.Vivifying.{AllCalm};
 ghost use Rattle.rule_kernel.specs.Changes.{marked, HasRoom, MarksCame, MarksWent};
-ghost use Rattle.rule_kernel.specs.State.{IsChained};
+ghost use Rattle.rule_kernel.specs.Frozen.{is_frozen};
+ghost use Rattle.rule_kernel.specs.Waiting.{waiting as waiting_of, Waits, Leaves};
+ghost use Rattle.rule_kernel.specs.Settled.{unsettled};
+ghost use Rattle.rule_kernel.specs.State.{IsChained, IsPromised, FirmIds, AllFirm};
 ghost use Rattle.rule_kernel.specs.Rules.{counted, firm_clause, Applies, Add, AddImplied, DropImplied, Park, Restore, Learn, Forget, SameRest, SameButMarks};
 
 use crate::changes::Changes;
+use crate::frozen::Frozen;
+use crate::settled::Settled;
+use crate::waiting::Waiting;
 use clause_store::store::Store;
 use clause_store::stored::Keep;
 use sat_model::lists::ClauseId;
@@ -37,12 +48,19 @@ use std::alloc::Global;
 use std::marker::Model;
 use witness_stack::stack::Stack;
 
-/// A store and a reconstruction stack, how often clauses were removed from the store and restored to it, and marks of what changed. It
-/// keeps the chain: for every entry of the stack, the witness witnesses the clause for the firm clauses together with the clauses of
-/// all later entries. A variable is marked where a firm clause that mentions it came or went; a literal, where a firm clause that holds
-/// it came, or one that holds its negation went.
+/// A store and a reconstruction stack, how often clauses were removed from the store and restored to it, and what passes must look at
+/// again. It keeps the chain: for every entry of the stack, the witness witnesses the clause for the firm clauses together with the
+/// clauses of all later entries.
+///
+/// A variable is marked where a firm clause that mentions it came or went; a literal, where a firm clause that holds it came, or one that
+/// holds its negation went; a firm clause that came waits to be compared with the others. A pass takes marks off where it found that
+/// nothing is to be done, and only there: so a variable without a mark is no candidate for elimination, a literal without a mark has no
+/// clause that is blocked on it, and clauses that do not wait neither lie within one another nor shorten one another. Likewise the kernel
+/// remembers that there are no equivalences, and that vivification shortens no clause, until a clause comes.
 #[derive(Drop)]
 pub struct Kernel {
+    // What all parts take their memory from.
+    alloc: Global,
     // The clauses, firm and redundant.
     store: Store,
     // The clauses that were parked, with their witnesses, oldest first.
@@ -51,19 +69,24 @@ pub struct Kernel {
     removals: u64,
     // How often `restore` was used, up to 2^62.
     restores: u64,
-    // What changed since the passes last looked.
+    // The variables and literals that changed since the passes last looked.
     changes: Changes,
+    // The clauses that wait to be compared.
+    waiting: Waiting,
+    // What the passes that look at all clauses found to be at rest.
+    settled: Settled,
 }
 
 impl Model for Kernel {
     ghost use Rattle.rule_kernel.specs.Changes.{marked};
+    ghost use Rattle.rule_kernel.specs.Waiting.{waiting as waiting_of};
     ghost use Rattle.rule_kernel.specs.State.{State, IsKept};
 
     ghost Value = { State };
 
-    ghost view = { λ k. record { store = k.store; stack = k.stack; removals = k.removals; restores = k.restores; marked = marked k.changes } };
+    ghost view = { λ k. record { store = k.store; stack = k.stack; removals = k.removals; restores = k.restores; marked = marked k.changes; waiting = waiting_of k.waiting; settled = k.settled } };
 
-    ghost invariant = { λ k. IsKept k.store k.stack k.changes.room };
+    ghost invariant = { λ k. IsKept k.store k.stack k.changes k.waiting k.settled };
 }
 
 // One more, up to 2^62.
@@ -73,36 +96,55 @@ fn one_more(count: u64) -> u64
     if count < 1 << 62 { count + 1 } else { 1 << 62 }
 }
 
-// Brings a normal clause to the firm ones, and marks that it came. After `Memory` no clause and no mark changed.
-fn enter(store: &mut Store, changes: &mut Changes, lits: &[Lit]) -> Result<ClauseId, Memory>
+// Brings a normal clause to the firm ones, marks that it came, and has it wait. After `Memory` no clause changed, and nothing that is marked
+// or waits.
+fn enter(
+    store: &mut Store,
+    changes: &mut Changes,
+    waiting: &mut Waiting,
+    settled: &mut Settled,
+    lits: &[Lit],
+) -> Result<ClauseId, Memory>
     requires { IsNormal lits.now }
     ensures store { IfOk result (λ id. Fills store.old store.new id (firm_clause lits.now)) }
     ensures marks { OnOk result (MarksCame (marked changes.old) (marked changes.new) lits.now) }
     ensures room { OnOk result (HasRoom changes.new.room lits.now) }
+    ensures waits { IfOk result (λ id. Waits (waiting_of waiting.old) (waiting_of waiting.new) id) }
+    ensures id { IfOk result (λ id. id < waiting.new.room) }
+    ensures settled { OnOk result (settled.new ≡ unsettled settled.old) }
     ensures more { changes.old.room ≤ changes.new.room }
+    ensures more_ids { waiting.old.room ≤ waiting.new.room }
     ensures err { OnErr result (store.new ≡ store.old) }
     ensures unmarked { OnErr result (marked changes.new ≡ marked changes.old) }
+    ensures unwaiting { OnErr result (waiting_of waiting.new ≡ waiting_of waiting.old) }
+    ensures unmoved { OnErr result (settled.new ≡ settled.old) }
 {
     changes.reach(lits)?;
+    waiting.reach(store.id_bound())?;
     let id = store.add(lits, Keep::Firm, 0)?;
     changes.came(lits);
+    waiting.came(id);
+    settled.came();
     Ok(id)
 }
 
-// Takes a firm clause out, and marks that it went.
-fn leave(store: &mut Store, changes: &mut Changes, id: ClauseId)
+// Takes a firm clause out, marks that it went, and has it wait no longer.
+fn leave(store: &mut Store, changes: &mut Changes, waiting: &mut Waiting, id: ClauseId)
     requires firm { is_firm (slot store.old id) ≡ true }
     requires room { HasRoom changes.old.room (slot_lits (slot store.old id)) }
     ensures store { Frees store.old store.new id }
     ensures marks { MarksWent (marked changes.old) (marked changes.new) (slot_lits (slot store.old id)) }
     ensures room { changes.new.room ≡ changes.old.room }
+    ensures leaves { Leaves (waiting_of waiting.old) (waiting_of waiting.new) id }
+    ensures ids { waiting.new.room ≡ waiting.old.room }
 {
     changes.went(store.get(id));
+    waiting.went(id);
     store.remove(id);
 }
 
 impl Kernel {
-    /// No clause, no entry, both counts 0, and nothing marked. It takes no memory.
+    /// No clause, no entry, both counts 0, nothing marked, and nothing waits. It takes no memory.
     pub fn new(alloc: Global) -> Kernel
         ensures store { result.store ≡ [] }
         ensures stack { result.stack ≡ [] }
@@ -110,14 +152,24 @@ impl Kernel {
         ensures restores { result.restores ≡ 0 }
         ensures vars { result.marked.vars ≡ [] }
         ensures lits { result.marked.lits ≡ [] }
+        ensures due { result.waiting.due ≡ [] }
+        ensures fresh { result.waiting.fresh ≡ [] }
     {
         Kernel {
+            alloc,
             store: Store::new(alloc),
             stack: Stack::new(alloc),
             removals: 0,
             restores: 0,
             changes: Changes::new(alloc),
+            waiting: Waiting::new(alloc),
+            settled: Settled::new(alloc),
         }
+    }
+
+    /// The allocator that the kernel was made with, for what a pass keeps beside it.
+    pub fn alloc(&self) -> Global {
+        self.alloc
     }
 
     /// The clauses.
@@ -162,24 +214,119 @@ impl Kernel {
         self.changes.lits()
     }
 
-    /// Takes the mark of a variable off, if it has one; the last of the marked variables comes to its place.
-    pub fn unmark_var(&mut self, var: Var)
+    /// Takes the mark of a variable that is no candidate for elimination off, if it has one; the last of the marked variables comes to its
+    /// place.
+    pub fn settle_var(&mut self, var: Var)
+        requires { candidate (firm_clauses self.old.store) var ≡ false }
         ensures place { (k : ℕ) → k < length self.old.marked.vars → slice_index_or self.old.marked.vars k var ≡ var → self.new.marked.vars ≡ swap_remove self.old.marked.vars k var }
         ensures vars { (v : ℕ) → has self.new.marked.vars v ≡ (has self.old.marked.vars v && not (var == v)) }
         ensures lits { self.new.marked.lits ≡ self.old.marked.lits }
+        ensures waiting { self.new.waiting ≡ self.old.waiting }
+        ensures settled { self.new.settled ≡ self.old.settled }
         ensures rest { SameButMarks self.old self.new }
     {
         self.changes.unmark_var(var);
     }
 
-    /// Takes the mark of a literal off, if it has one; the last of the marked literals comes to its place.
-    pub fn unmark_lit(&mut self, lit: Lit)
+    /// Takes the mark of a literal on which no clause is blocked off, if it has one; the last of the marked literals comes to its place.
+    pub fn settle_lit(&mut self, lit: Lit)
+        requires { BlocksNone self.old.store lit }
         ensures place { (k : ℕ) → k < length self.old.marked.lits → slice_index_or self.old.marked.lits k lit ≡ lit → self.new.marked.lits ≡ swap_remove self.old.marked.lits k lit }
         ensures lits { (l : ℕ) → has self.new.marked.lits l ≡ (has self.old.marked.lits l && not (lit == l)) }
         ensures vars { self.new.marked.vars ≡ self.old.marked.vars }
+        ensures waiting { self.new.waiting ≡ self.old.waiting }
+        ensures settled { self.new.settled ≡ self.old.settled }
         ensures rest { SameButMarks self.old self.new }
     {
         self.changes.unmark_lit(lit);
+    }
+
+    /// The ids of the clauses that wait to be tried on all others, each once: whether they lie within one, or shorten one.
+    pub fn due(&self) -> &[ClauseId]
+        ensures { result.now ≡ self.now.waiting.due }
+    {
+        self.waiting.due()
+    }
+
+    /// The ids of the clauses on which all others wait to be tried, each once.
+    pub fn fresh(&self) -> &[ClauseId]
+        ensures { result.now ≡ self.now.waiting.fresh }
+    {
+        self.waiting.fresh()
+    }
+
+    /// A clause neither lies within another firm one nor shortens one: it waits no longer to be tried on them.
+    pub fn settle_due(&mut self, id: ClauseId)
+        requires { is_firm (slot self.old.store id) ≡ true → IsDone self.old.store id }
+        ensures due { (k : ℕ) → has self.new.waiting.due k ≡ (has self.old.waiting.due k && not (id == k)) }
+        ensures fresh { self.new.waiting.fresh ≡ self.old.waiting.fresh }
+        ensures marked { self.new.marked ≡ self.old.marked }
+        ensures settled { self.new.settled ≡ self.old.settled }
+        ensures rest { SameButMarks self.old self.new }
+    {
+        self.waiting.settle_due(id);
+    }
+
+    /// No other firm clause that is not due, nor empty, lies within a clause or shortens it: none waits any longer to be tried on it.
+    pub fn settle_fresh(&mut self, id: ClauseId)
+        requires { (other : ℕ) → other ≢ id → is_firm (slot self.old.store other) ≡ true → 0 < length (slot_lits (slot self.old.store other)) → has self.old.waiting.due other ≡ false → IsFree (slot_lits (slot self.old.store other)) (slot_lits (slot self.old.store id)) }
+        ensures due { self.new.waiting.due ≡ self.old.waiting.due }
+        ensures fresh { (k : ℕ) → has self.new.waiting.fresh k ≡ (has self.old.waiting.fresh k && not (id == k)) }
+        ensures marked { self.new.marked ≡ self.old.marked }
+        ensures settled { self.new.settled ≡ self.old.settled }
+        ensures rest { SameButMarks self.old self.new }
+    {
+        self.waiting.settle_fresh(id);
+    }
+
+    /// All firm clauses wait to be tried on all others, which does for those on which all others wait to be tried: there are none of these
+    /// then. A pass calls it where more waits than there are clauses.
+    pub fn make_all_due(&mut self)
+        ensures due { (k : ℕ) → has self.new.waiting.due k ≡ is_firm (slot self.old.store k) }
+        ensures fresh { self.new.waiting.fresh ≡ [] }
+        ensures marked { self.new.marked ≡ self.old.marked }
+        ensures settled { self.new.settled ≡ self.old.settled }
+        ensures rest { SameButMarks self.old self.new }
+    {
+        self.waiting.all_due(self.store.firm_ids());
+    }
+
+    /// Whether it is known that no variable but these frozen ones is equivalent to a literal of another one.
+    pub fn is_untied(&self, frozen: &Frozen) -> bool
+        ensures { IsTrue result → NoEquivalents (is_frozen frozen.now) self.now.store }
+    {
+        self.settled.is_untied(frozen)
+    }
+
+    /// No variable but some frozen ones is equivalent to a literal of another one: this is remembered until a clause comes, where there is
+    /// memory for the frozen variables.
+    pub fn settle_untied(&mut self, frozen: &Frozen)
+        requires { NoEquivalents (is_frozen frozen.now) self.old.store }
+        ensures marked { self.new.marked ≡ self.old.marked }
+        ensures waiting { self.new.waiting ≡ self.old.waiting }
+        ensures calm { self.new.settled.calm ≡ self.old.settled.calm }
+        ensures rest { SameButMarks self.old self.new }
+    {
+        self.settled.settle_untied(frozen);
+    }
+
+    /// Whether it is known that vivification shortens no clause.
+    pub fn is_calm(&self) -> bool
+        ensures known { result ≡ self.now.settled.calm }
+        ensures calm { IsTrue result → AllCalm self.now.store }
+    {
+        self.settled.is_calm()
+    }
+
+    /// Vivification shortens no clause: this is remembered until a clause comes.
+    pub fn settle_calm(&mut self)
+        requires { AllCalm self.old.store }
+        ensures marked { self.new.marked ≡ self.old.marked }
+        ensures waiting { self.new.waiting ≡ self.old.waiting }
+        ensures calm { self.new.settled.calm ≡ true }
+        ensures rest { SameButMarks self.old self.new }
+    {
+        self.settled.settle_calm();
     }
 
     /// Extends a model of the firm clauses by the stack, so that it makes the clauses of the stack true too. The model must
@@ -208,7 +355,13 @@ impl Kernel {
         ensures ok { IfOk result (λ id. Applies (Add lits.now id) self.old self.new) }
         ensures err { OnErr result (self.new ≡ self.old) }
     {
-        let id = enter(&mut self.store, &mut self.changes, lits)?;
+        let id = enter(
+            &mut self.store,
+            &mut self.changes,
+            &mut self.waiting,
+            &mut self.settled,
+            lits,
+        )?;
         Ok(id)
     }
 
@@ -219,7 +372,13 @@ impl Kernel {
         ensures ok { IfOk result (λ id. Applies (AddImplied lits.now id) self.old self.new) }
         ensures err { OnErr result (self.new ≡ self.old) }
     {
-        let implied = enter(&mut self.store, &mut self.changes, lits)?;
+        let implied = enter(
+            &mut self.store,
+            &mut self.changes,
+            &mut self.waiting,
+            &mut self.settled,
+            lits,
+        )?;
         Ok(implied)
     }
 
@@ -230,7 +389,7 @@ impl Kernel {
         ensures { Applies (DropImplied id) self.old self.new }
     {
         let removals = one_more(self.removals);
-        leave(&mut self.store, &mut self.changes, id);
+        leave(&mut self.store, &mut self.changes, &mut self.waiting, id);
         self.removals = removals;
     }
 
@@ -243,7 +402,7 @@ impl Kernel {
         ensures err { OnErr result (self.new ≡ self.old) }
     {
         self.stack.push(witness, self.store.get(id))?;
-        leave(&mut self.store, &mut self.changes, id);
+        leave(&mut self.store, &mut self.changes, &mut self.waiting, id);
         self.removals = one_more(self.removals);
         Ok(())
     }
@@ -257,7 +416,13 @@ impl Kernel {
         ensures err { OnErr result (self.new ≡ self.old) }
     {
         self.stack.law_witnesses();
-        let id = enter(&mut self.store, &mut self.changes, self.stack.clause(k))?;
+        let id = enter(
+            &mut self.store,
+            &mut self.changes,
+            &mut self.waiting,
+            &mut self.settled,
+            self.stack.clause(k),
+        )?;
         self.stack.take_out(k);
         self.restores = one_more(self.restores);
         Ok(id)
@@ -286,15 +451,25 @@ impl Kernel {
         ensures store { SameSlots self.old.store self.new.store }
         ensures rest { SameRest self.old self.new }
         ensures marks { self.new.marked ≡ self.old.marked }
+        ensures waiting { self.new.waiting ≡ self.old.waiting }
+        ensures settled { self.new.settled ≡ self.old.settled }
     {
         self.store.compact()
     }
 
-    // A law: a call that does nothing, and tells a caller what holds of every kernel.
+    // Laws: calls that do nothing, and tell a caller what holds of every kernel.
 
     /// What holds of every kernel: its chain. The call does nothing.
     pub fn law_chain(&self)
         ensures { IsChained self.now }
+    {
+        let _ = &self.store;
+    }
+
+    /// What holds of every kernel: what passes may rely on where nothing is marked, nothing waits, or something is settled. The call does
+    /// nothing.
+    pub fn law_promises(&self)
+        ensures { IsPromised self.now }
     {
         let _ = &self.store;
     }

@@ -7,5 +7,7 @@ pub mod frozen;
 pub mod kernel;
 pub mod laws;
 pub mod report;
+mod settled;
 #[cfg(test)]
 mod tests;
+mod waiting;

@@ -1,0 +1,5 @@
+pub mod Firm
+pub mod Resolving
+pub mod Subsuming
+pub mod Implying
+pub mod Vivifying
