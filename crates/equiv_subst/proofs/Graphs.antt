@@ -177,7 +177,3 @@ shows_all s ids i g le each h =
 
 pub same_read : (c : List ℕ) (i x y : ℕ) → i < length c → x ≡ get_or c i x → y ≡ get_or c i y → x ≡ y
 same_read c i x y in' f s = f ∙ get_or_default c i x y in' ∙ sym s
-
-pub firm_read : (s : List (Option Stored)) (ids : List ℕ) (i id : ℕ) → HasEachOnce (firm_at s) ids → i < length ids → id ≡ get_or ids i id → is_firm (slot s id) ≡ true
-firm_read s ids i id each in' read =
-    subst (λ (z : ℕ). is_firm (slot s z) ≡ true) (sym (read ∙ get_or_default ids i id 0 in')) (listed (firm_at s) ids i each in')

@@ -1,4 +1,5 @@
 -- What the pass keeps from round to round.
+use Rattle.firm_terms.proofs.Dividing.{div_below}
 use Rattle.std.proofs.Common.{◌≡◌, ◌≢◌, ℕ, suc, zero, ◌+◌, ◌-◌, ◌*◌, ◌/◌, ◌%◌, ◌<◌, ◌≤◌, Bool, true, false, not, eqb, List, [], ◌∷◌, length, get_or, Option, inl, inr, refl, sym, ap, ◌∙◌, subst, arith, count_by}
 use Rattle.std.proofs.lemmas.Bool.{false≢true, cases_Bool, cases_eq, cases_lt, false_from_ne_true, or_cases, eqb-true, eq-eqb, ne_eqb}
 use Rattle.std.proofs.lemmas.List.{get_or_default}
@@ -14,12 +15,12 @@ use Rattle.firm_terms.specs.Firm.{firm, stands, has_empty, vars, gone, Holds}
 use Rattle.pass_terms.specs.Ruled.{Ruled}
 use Rattle.pass_terms.specs.Ruled.Uses.{implied}
 use Rattle.pass_terms.specs.Ruled.Ruled.{none, more}
-use Rattle.firm_terms.proofs.Standing.{stands_of, stands_from, mentions_lit, lit_of}
+use Rattle.firm_terms.proofs.Standing.{stands_of, stands_from, mentions_lit, lit_of, some_of, some_from}
 use Rattle.clause_store.specs.Listing.{HasEachOnce, firm_at, holds_at}
 use Rattle.firm_terms.proofs.Counting.{count_firm, place_of, listed}
 use Rattle.pass_terms.proofs.Ruling.{ruled_trans, ruled_weaken, ruled_stands, ruled_gone}
 use Rattle.equiv_subst.proofs.Backward.{still_implied}
-use Rattle.equiv_subst.proofs.Leaving.{some_of, some_from, has-vars, gone_le, gone_less, gone_most}
+use Rattle.equiv_subst.proofs.Leaving.{has-vars, gone_le, gone_less, gone_most}
 use Rattle.equiv_subst.specs.declared.pairs.Pair.{Pair}
 use Rattle.equiv_subst.specs.Implications.{Arc, size, IsGraphOf}
 use Rattle.firm_terms.specs.Implying.{Joined, Implication}
@@ -251,18 +252,6 @@ passing_falls frozen s t u b c limit h k =
     let m = gone_most (vars (firm s.store)) (firm u.store) in
     omega arith
 
--- what the product says of the quotient
-div_below : (b d g : ℕ) → 0 < d → b < d * (g + 1) → b / d ≤ g
-div_below b d g pos h =
-    elim (cases_lt g (b / d)) [
-      | inl lt ↦
-          (let u : g + 1 ≤ b / d = omega arith in
-          let m : d * (g + 1) ≤ d * (b / d) = mul-le-mul_left d u in
-          let e : d * (b / d) + b % d ≡ b = omega arith in
-          absurd (omega (arith, m, e, h)))
-      | inr le ↦ le
-    ]
-
 some_clause : (b m g : ℕ) → b < 3 * (m * (g + 1)) → 0 < m
 some_clause b zero g h = absurd (omega arith)
 some_clause b (suc m) g h = omega arith
@@ -289,18 +278,6 @@ passing_full frozen s t u b c limit h k =
     let sp = h.spent in
     let sp' = k.spent (vars (firm s.store)) (length (firm s.store)) (covers_now frozen s t h.ruled) h.few in
     reaches_limit s.store u.store limit c k.full (omega arith)
-
--- reading the store
-pub refuted_at : (s : List (Option Stored)) (id : ℕ) (lits : List ℕ) → is_firm (slot s id) ≡ true → lits ≡ slot_lits (slot s id) → length lits ≡ 0 → has_empty (firm s) ≡ true
-refuted_at s id lits firm' is nil = some_from (λ c. eqb (length c) 0) s id firm' (eq-eqb (length (slot_lits (slot s id))) 0 (ap length (sym is) ∙ nil))
-
-pub not_refuted : (s : List (Option Stored)) (ids : List ℕ) (i : ℕ) → HasEachOnce (firm_at s) ids → length ids ≤ i → ((k : ℕ) → k < i → length (slot_lits (slot s (get_or ids k 0))) ≡ 0 → ⊥) → has_empty (firm s) ≡ false
-not_refuted s ids i each past h =
-    false_from_ne_true (has_empty (firm s)) (λ y.
-    let r = some_of (λ c. eqb (length c) 0) s y in
-    let k = place_of (firm_at s) ids r.0 each r.1 in
-    let lt = k.1 in
-    h k.0 (omega arith) (subst (λ (z : ℕ). length (slot_lits (slot s z)) ≡ 0) (sym k.2) (eqb-true (length (slot_lits (slot s r.0))) 0 r.2)))
 
 pub some_holds : (s : List (Option Stored)) (ids : List ℕ) (l : ℕ) → HasEachOnce (holds_at s l) ids → 0 < length ids → (id : ℕ) × Holds s id l
 some_holds s ids l each some = (get_or ids 0 0, holds_of s l (get_or ids 0 0) (listed (holds_at s l) ids 0 each some))

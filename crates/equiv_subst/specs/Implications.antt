@@ -3,6 +3,7 @@ use Rattle.std.specs.Prelude.{◌≡◌, ◌≢◌, ℕ, ◌+◌, ◌*◌, ◌<�
 use Rattle.sat_terms.specs.Literal.{has, neg, var_of, pos_lit, IsLiteral}
 use Rattle.clause_store.specs.Stored.{Stored, slot, slot_lits, is_firm}
 use Rattle.firm_terms.specs.Firm.{firm}
+use Rattle.firm_terms.specs.Implying.{Joined, IsPairOf, Says, Implication}
 
 -- a table with the literals that each literal leads to, at its code
 abbrev pub arcs : List (List ℕ) → ℕ → List ℕ

@@ -5,10 +5,6 @@ use Rattle.clause_store.specs.Stored.{Stored, slot, slot_lits, is_firm}
 use Rattle.firm_terms.specs.Firm.{firm, stands, mentions, Holds}
 use Rattle.firm_terms.specs.Implying.{Says}
 
--- no variable is free to be a witness
-abbrev pub always : ℕ → Bool
-always v = true
-
 -- every variable but one is frozen
 abbrev pub all_but : ℕ → ℕ → Bool
 all_but v u = if u == v then false else true

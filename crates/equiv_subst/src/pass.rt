@@ -24,6 +24,8 @@ ghost use Rattle.clause_store.specs.Stored.{FirmTrue, is_firm};
 ghost use Rattle.rule_kernel.specs.Frozen.{is_frozen};
 ghost use Rattle.rule_kernel.specs.declared.report.Ended.TheVariants.{Fixpoint};
 ghost use Rattle.firm_terms.specs.Firm.{firm, stands, has_empty, Holds};
+ghost use Rattle.firm_terms.specs.Implying.{NoEquivalents};
+ghost use Rattle.rule_kernel.specs.Rules.{SameButMarks};
 ghost use Rattle.pass_terms.specs.Ruled.{Ruled};
 ghost use Rattle.equiv_subst.specs.Walk.{pair, Halted};
 ghost use Rattle.equiv_subst.specs.Replacing.{all_but};
@@ -34,6 +36,7 @@ use crate::pairs::Pair;
 use crate::replace::replace;
 use crate::walk::find_pairs;
 use clause_store::store::Store;
+use pass_terms::refuted::is_refuted;
 use rule_kernel::frozen::Frozen;
 use rule_kernel::kernel::Kernel;
 use rule_kernel::report::{Ended, PassReport};
@@ -50,19 +53,6 @@ pub(crate) enum Round {
     Full,
     // Variables were replaced.
     Again,
-}
-
-// Whether an empty clause is firm.
-fn is_refuted(store: &Store) -> bool
-    ensures { result ≡ has_empty (firm store.now) }
-{
-    for id in store.firm_ids() {
-        let count = store.get(*id).len();
-        if count == 0 {
-            return true;
-        }
-    }
-    false
 }
 
 // Whether a firm clause holds a literal.
@@ -210,6 +200,17 @@ fn one_round(
     Ok(Round::Again)
 }
 
+// The kernel remembers an end at which there are no equivalences.
+fn remember(kernel: &mut Kernel, frozen: &Frozen)
+    requires { has_empty (firm kernel.old.store) ≡ false → NoEquivalents (is_frozen frozen.now) kernel.old.store }
+    ensures { SameButMarks kernel.old kernel.new }
+{
+    if is_refuted(kernel.store()) {
+        return;
+    }
+    kernel.settle_untied(frozen);
+}
+
 /// Replaces each variable that is not frozen and is equivalent, by a strong component of the
 /// implications that the binary firm clauses say, to a literal of another variable, until there
 /// is none (`Fixpoint`), or until as many steps were counted as `limit` and one more is needed
@@ -220,13 +221,9 @@ fn one_round(
 /// The kernel changes by its rules alone, as passes may use them (`Ruled`), whatever is answered:
 /// after `Memory` it is as the last rule left it. `removed` is the rise of the kernel's count of
 /// removals. Where an empty clause is firm, nothing changes; where one comes, since a literal is
-/// equivalent to its negation, the pass ends with `Fixpoint`.
-pub fn run(
-    alloc: Global,
-    kernel: &mut Kernel,
-    frozen: &Frozen,
-    limit: u64,
-) -> Result<PassReport, Memory>
+/// equivalent to its negation, the pass ends with `Fixpoint`. So it does, at once, where no clause
+/// came since a run that ended so under the same frozen variables, for the kernel remembers it.
+pub fn run(kernel: &mut Kernel, frozen: &Frozen, limit: u64) -> Result<PassReport, Memory>
     ensures ruled { Ruled (is_frozen frozen.now) kernel.old kernel.new }
     ensures removed { IfOk result (λ report.
         report.removed ≡ kernel.new.removals - kernel.old.removals) }
@@ -237,16 +234,24 @@ pub fn run(
         has_empty (firm kernel.old.store) ≡ true → report.ended ≡ Fixpoint) }
 {
     let removals = kernel.removals();
+    if kernel.is_untied(frozen) {
+        return Ok(PassReport {
+            removed: 0,
+            ended: Ended::Fixpoint,
+        });
+    }
     if is_refuted(kernel.store()) {
         return Ok(PassReport {
             removed: 0,
             ended: Ended::Fixpoint,
         });
     }
+    let alloc = kernel.alloc();
     let mut steps = 0;
     loop {
         match one_round(alloc, kernel, frozen, &mut steps, limit)? {
             Round::Quiet => {
+                remember(kernel, frozen);
                 return Ok(PassReport {
                     removed: kernel.removals().saturating_sub(removals),
                     ended: Ended::Fixpoint,

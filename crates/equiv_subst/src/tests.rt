@@ -182,7 +182,7 @@ const ROWS: &[Row] = &[
 fn run_frozen(alloc: Global, kernel: &mut Kernel, row: &Row) -> Result<PassReport, Fail> {
     let mut frozen = Frozen::new(alloc);
     freeze(&mut frozen, row.frozen)?;
-    Ok(run(alloc, kernel, &frozen, row.limit)?)
+    Ok(run(kernel, &frozen, row.limit)?)
 }
 
 // Makes the kernel of a row, runs the pass, and writes what it left.
@@ -574,7 +574,7 @@ fn compare(
 ) -> Result<(), Fail> {
     draw_clauses(alloc, draw, kernel)?;
     let before = see(kernel);
-    let report = run(alloc, kernel, frozen, limit)?;
+    let report = run(kernel, frozen, limit)?;
     let fits = fits(kernel, frozen, limit, report, &before);
     count(tally, report, fits);
     Ok(())
@@ -661,7 +661,7 @@ fn add_long(alloc: Global, kernel: &mut Kernel) -> Result<(), Fail> {
 // Runs the pass with no variable frozen.
 fn run_free(alloc: Global, kernel: &mut Kernel) -> Result<PassReport, Fail> {
     let frozen = Frozen::new(alloc);
-    Ok(run(alloc, kernel, &frozen, 1_000_000)?)
+    Ok(run(kernel, &frozen, 1_000_000)?)
 }
 
 // Whether the pass leaves one variable of the cycle, 1, in one clause.

@@ -1,5 +1,7 @@
 pub mod Changing
 pub mod Counting
+pub mod Dividing
+pub mod Emptying
 pub mod Signing
 pub mod Standing
 pub mod Staying

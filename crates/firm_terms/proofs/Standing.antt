@@ -1,32 +1,40 @@
 -- Laws of the firm clauses of a store, by their ids.
-use Rattle.std.proofs.Common.{◌≡◌, ℕ, suc, zero, true, eqb, List, [], ◌∷◌, Option, Some, None, ◌⊎◌, inl, inr, refl, ap, ◌∙◌}
+use Rattle.std.proofs.Common.{◌≡◌, Bool, ℕ, suc, zero, true, eqb, List, [], ◌∷◌, Option, Some, None, ◌⊎◌, inl, inr, refl, ap, ◌∙◌}
+use Rattle.std.specs.List.{list_any}
 use Rattle.std.proofs.lemmas.Bool.{cases_Bool, cases_eq, false≢true, or_cases, or_left, or_right, eq-eqb, eqb-true}
 use Rattle.sat_terms.specs.Literal.{has, var_of}
 use Rattle.clause_store.specs.Stored.{Stored, keeps_firm, slot, slot_lits, is_firm, Fills, Frees}
 use Rattle.firm_terms.specs.Firm.{mentions, firm, stands}
 
--- a variable that stands in firm clauses stands in one, by its id
-pub stands_of : (s : List (Option Stored)) (v : ℕ) → stands (firm s) v ≡ true → (id : ℕ) × (is_firm (slot s id) ≡ true) × (mentions (slot_lits (slot s id)) v ≡ true)
-stands_of [] v h = absurd (false≢true h)
-stands_of (None ∷ s) v h = let r = stands_of s v h in (suc r.0, r.1, r.2)
-stands_of (Some c ∷ s) v h =
+-- a firm clause that passes a test, by its id
+pub some_of : (p : List ℕ → Bool) (s : List (Option Stored)) → list_any p (firm s) ≡ true → (id : ℕ) × (is_firm (slot s id) ≡ true) × (p (slot_lits (slot s id)) ≡ true)
+some_of p [] h = absurd (false≢true h)
+some_of p (None ∷ s) h = let r = some_of p s h in (suc r.0, r.1, r.2)
+some_of p (Some c ∷ s) h =
     elim (cases_Bool (keeps_firm c.keep)) [
       | inl a ↦
-          elim (or_cases (mentions c.lits v) (stands (firm s) v) (rw a at h)) [
+          elim (or_cases (p c.lits) (list_any p (firm s)) (rw a at h)) [
             | inl b ↦ (0, a, b)
-            | inr b ↦ (let r = stands_of s v b in (suc r.0, r.1, r.2))
+            | inr b ↦ (let r = some_of p s b in (suc r.0, r.1, r.2))
           ]
-      | inr a ↦ (let r = stands_of s v (rw a at h) in (suc r.0, r.1, r.2))
+      | inr a ↦ (let r = some_of p s (rw a at h) in (suc r.0, r.1, r.2))
     ]
 
+pub some_from : (p : List ℕ → Bool) (s : List (Option Stored)) (id : ℕ) → is_firm (slot s id) ≡ true → p (slot_lits (slot s id)) ≡ true → list_any p (firm s) ≡ true
+some_from p [] id a b = absurd (false≢true a)
+some_from p (None ∷ s) zero a b = absurd (false≢true a)
+some_from p (None ∷ s) (suc id) a b = some_from p s id a b
+some_from p (Some c ∷ s) zero a b = rw a (or_left (p c.lits) (list_any p (firm s)) b)
+some_from p (Some c ∷ s) (suc id) a b =
+    let r = some_from p s id a b in
+    elim (cases_Bool (keeps_firm c.keep)) [ inl k ↦ rw k (or_right (p c.lits) (list_any p (firm s)) r) | inr k ↦ rw k r ]
+
+-- a variable that stands in firm clauses stands in one
+pub stands_of : (s : List (Option Stored)) (v : ℕ) → stands (firm s) v ≡ true → (id : ℕ) × (is_firm (slot s id) ≡ true) × (mentions (slot_lits (slot s id)) v ≡ true)
+stands_of s v h = some_of (λ c. mentions c v) s h
+
 pub stands_from : (s : List (Option Stored)) (v id : ℕ) → is_firm (slot s id) ≡ true → mentions (slot_lits (slot s id)) v ≡ true → stands (firm s) v ≡ true
-stands_from [] v id a b = absurd (false≢true a)
-stands_from (None ∷ s) v zero a b = absurd (false≢true a)
-stands_from (None ∷ s) v (suc id) a b = stands_from s v id a b
-stands_from (Some c ∷ s) v zero a b = rw a (or_left (mentions c.lits v) (stands (firm s) v) b)
-stands_from (Some c ∷ s) v (suc id) a b =
-    let r = stands_from s v id a b in
-    elim (cases_Bool (keeps_firm c.keep)) [ inl k ↦ rw k (or_right (mentions c.lits v) (stands (firm s) v) r) | inr k ↦ rw k r ]
+stands_from s v id a b = some_from (λ c. mentions c v) s id a b
 
 -- a variable that a clause mentions has a literal there
 pub mentions_lit : (c : List ℕ) (l : ℕ) → has c l ≡ true → mentions c (var_of l) ≡ true

@@ -13,7 +13,7 @@ use Rattle.clause_store.proofs.Slots.{FirmTrue-from, OthersTrue-from, FirmTrue-f
 use Rattle.rule_kernel.specs.State.{State}
 use Rattle.rule_kernel.specs.Rules.{firm_clause, Applies, AddImplied, DropImplied, Park, SameButMarks, counted}
 use Rattle.firm_terms.specs.Firm.{mentions, firm, stands}
-use Rattle.pass_terms.specs.Ruled.{IsKnown, Uses, Ruled, goes, removals_of, Models, stacked, stands_in, IsSingle, AreSingle, SameRedundant, Simplified, PassesSimplify}
+use Rattle.pass_terms.specs.Ruled.{always, IsKnown, Uses, Ruled, goes, removals_of, Models, stacked, stands_in, IsSingle, AreSingle, SameRedundant, Simplified, PassesSimplify}
 use Rattle.pass_terms.specs.Ruled.Uses.{implied, dropped, parked, unmarked}
 use Rattle.pass_terms.specs.Ruled.Ruled.{none, more}
 use Rattle.firm_terms.proofs.Standing.{stands_from, stands_filled, stands_freed}
@@ -40,6 +40,10 @@ uses_weaken p q s t w (unmarked r) = unmarked r
 pub ruled_weaken : (p q : ℕ → Bool) (s t : State) → ((v : ℕ) → p v ≡ false → q v ≡ false) → Ruled p s t → Ruled q s t
 ruled_weaken p q s _ w none = none
 ruled_weaken p q s _ w (more t u a r) = more t u (ruled_weaken p q s t w a) (uses_weaken p q t u w r)
+
+-- where no variable is free nothing was parked
+pub for_any : (frozen : ℕ → Bool) (s t : State) → Ruled always s t → Ruled frozen s t
+for_any frozen s t h = ruled_weaken always frozen s t (λ v e. absurd (false≢true (sym e))) h
 
 -- rules keep the assignments that make firm and stacked clauses true
 uses_to : (frozen : ℕ → Bool) (s t : State) → Uses frozen s t → (f : Assignment) → Models s f → Models t f

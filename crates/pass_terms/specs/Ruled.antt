@@ -9,6 +9,10 @@ use Rattle.firm_terms.specs.Firm.{mentions, firm, stands}
 use Rattle.rule_kernel.specs.State.{State}
 use Rattle.rule_kernel.specs.Rules.{Applies, AddImplied, DropImplied, Park, SameButMarks}
 
+-- no variable is free to be a witness
+abbrev pub always : ℕ → Bool
+always v = true
+
 -- the variables of a clause stand in firm clauses
 abbrev pub IsKnown : State → List ℕ → Type 0
 IsKnown s lits = (v : ℕ) → mentions lits v ≡ true → stands (firm s.store) v ≡ true

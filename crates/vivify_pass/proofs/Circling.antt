@@ -1,4 +1,5 @@
 -- Laws of clauses that are tried in turn, and once round.
+use Rattle.firm_terms.proofs.Dividing.{div_below}
 use Rattle.std.proofs.Common.{◌≡◌, ◌≢◌, ℕ, suc, zero, ◌+◌, ◌-◌, ◌*◌, ◌/◌, ◌%◌, ◌<◌, ◌≤◌, true, false, cond, eqb, List, length, length-set, get_or, take, drop, set, Option, Result, Ok, Err, IfOk, inl, inr, refl, sym, ap, ◌∙◌, subst, arith}
 use Rattle.std.proofs.lemmas.Bool.{false≢true, cases_eq, cases_lt, eq-eqb, ne_eqb}
 use Rattle.std.proofs.lemmas.List.{get_or_default, get_or-drop, get_or-take, length-take-le, length-drop, take_all}
@@ -7,7 +8,7 @@ use Rattle.std.proofs.Math.Nat.{mul-le-mul_left}
 use Rattle.clause_store.specs.Stored.{Stored, slot, slot_lits, is_firm}
 use Rattle.clause_store.specs.Listing.{times, HasEachOnce, firm_at}
 use Rattle.rule_kernel.specs.State.{State}
-use Rattle.pass_terms.specs.Ruled.{Ruled}
+use Rattle.pass_terms.specs.Ruled.{Ruled, always}
 use Rattle.pass_terms.specs.Ruled.Ruled.{none}
 use Rattle.pass_terms.proofs.Ruling.{ruled_trans}
 use Rattle.trail_state.specs.Trail.{Trace}
@@ -15,9 +16,9 @@ use Rattle.watch_lists.specs.Propagation.{Watching}
 use Rattle.vivify_pass.specs.declared.turn.Round.{Round}
 use Rattle.vivify_pass.specs.declared.turn.Round.TheVariants.{Unchanged, Changed, Stopped}
 use Rattle.firm_terms.specs.Firm.{firm_size, lits_sum}
-use Rattle.firm_terms.specs.Vivifying.{Calm, NoneShortens}
+use Rattle.firm_terms.specs.Vivifying.{Calm, AllCalm}
 use Rattle.vivify_pass.specs.Trailing.{Ready}
-use Rattle.vivify_pass.specs.Turning.{always, StaysSame, Shortens, GetsShorter, ComesFull, AreFirm, literals, CalmAt, AllStay, OneShortens, RunsOut, Tried, ReachesLimit}
+use Rattle.vivify_pass.specs.Turning.{StaysSame, Shortens, GetsShorter, ComesFull, AreFirm, literals, CalmAt, AllStay, OneShortens, RunsOut, Tried, ReachesLimit}
 use Rattle.firm_terms.proofs.Counting.{listed, place_of}
 use Rattle.firm_terms.proofs.Summing.{firm_size_is, sum_ids}
 use Rattle.vivify_pass.proofs.Forcing.{calm_whole}
@@ -279,18 +280,6 @@ circling_more s t u w v trail trail' ids start place next b c limit h ruled k =
       rest = k.rest;
     }
 
--- what the product says of the quotient
-div_below : (b d g : ℕ) → 0 < d → b < d * (g + 1) → b / d ≤ g
-div_below b d g pos h =
-    elim (cases_lt g (b / d)) [
-      | inl lt ↦
-          (let u : g + 1 ≤ b / d = omega arith in
-          let m : d * (g + 1) ≤ d * (b / d) = mul-le-mul_left d u in
-          let e : d * (b / d) + b % d ≡ b = omega arith in
-          absurd (omega (arith, m, e, h)))
-      | inr le ↦ le
-    ]
-
 some_literal : (b l g : ℕ) → b < l * (g + 1) → 0 < l
 some_literal b zero g h = absurd (omega arith)
 some_literal b (suc l) g h = omega arith
@@ -314,9 +303,9 @@ circling_full s t u w trail ids start b c limit h k =
     let e : lits_sum s.store * ((lits_sum s.store - lits_sum t.store) + 1) ≡ lits_sum s.store * (lits_sum s.store - lits_sum t.store) + lits_sum s.store = grind arith in
     subst (λ (z : List (Option Stored)). ReachesLimit s.store z limit c) (sym same) (reaches_limit s.store t.store limit c k.full (omega (arith, whole, less, sp, so, e)))
 
-pub circling_end : (s t u : State) (w v : Watching) (trail trail' : Trace) (ids : List ℕ) (start b c limit : ℕ) → Circling s t w trail ids start b limit → AllStay t u v trail' ids b c limit → NoneShortens u.store
+pub circling_end : (s t u : State) (w v : Watching) (trail trail' : Trace) (ids : List ℕ) (start b c limit : ℕ) → Circling s t w trail ids start b limit → AllStay t u v trail' ids b c limit → AllCalm u.store
 circling_end s t u w v trail trail' ids start b c limit h k =
     let same : u.store ≡ t.store = ap (λ (z : State). z.store) k.same in
-    subst (λ (z : List (Option Stored)). NoneShortens z) (sym same) (λ id f new m.
+    subst (λ (z : List (Option Stored)). AllCalm z) (sym same) (λ id f.
     let p = place_of (firm_at t.store) ids id h.each f in
-    calm_whole t.store id (slot_lits (slot t.store id)) new (subst (λ (z : ℕ). Calm t.store z (slot_lits (slot t.store z))) p.2 (k.calm p.0 p.1)) m)
+    subst (λ (z : ℕ). Calm t.store z (slot_lits (slot t.store z))) p.2 (k.calm p.0 p.1))

@@ -13,12 +13,11 @@ use Rattle.watch_lists.specs.Propagation.{Watching, Follows}
 use Rattle.vivify_pass.specs.Trailing.{Ready}
 use Rattle.firm_terms.proofs.Counting.{place_of, listed}
 use Rattle.firm_terms.proofs.Summing.{once_apart}
-use Rattle.vivify_pass.proofs.Passing.{some_of, some_from}
+use Rattle.firm_terms.proofs.Standing.{some_of, some_from}
 use Rattle.firm_terms.specs.Firm.{firm, has_empty}
 use Rattle.pass_terms.proofs.Ruling.{ruled_weaken}
-use Rattle.pass_terms.specs.Ruled.{Ruled}
+use Rattle.pass_terms.specs.Ruled.{Ruled, always}
 use Rattle.rule_kernel.specs.State.{State}
-use Rattle.vivify_pass.specs.Turning.{always}
 
 pub within_more : (lits : List ℕ) (i x m n : ℕ) → i < length lits → x ≡ get_or lits i x → m ≤ n → 1 ≤ var_of x → var_of x ≤ n → Within m (take i lits) → Within n (take (i + 1) lits)
 within_more lits i x m n in' read le low high h k d lt =
@@ -61,9 +60,6 @@ attach_fresh s ids i id old new each in' read h =
     let b = p.1 in
     let lt : p.0 < i = omega arith in
     once_apart (firm_at s) ids p.0 i each lt in' (sym (get_or-take i ids p.0 0 lt) ∙ p.2 ∙ at0))
-
-pub attach_firm : (s : List (Option Stored)) (ids : List ℕ) (i id : ℕ) → HasEachOnce (firm_at s) ids → i < length ids → id ≡ get_or ids i id → is_firm (slot s id) ≡ true
-attach_firm s ids i id each in' read = subst (λ (z : ℕ). is_firm (slot s z) ≡ true) (sym (read ∙ get_or_default ids i id 0 in')) (listed (firm_at s) ids i each in')
 
 pub attaching_more : (s : List (Option Stored)) (ids : List ℕ) (i id : ℕ) (old now new : Watching) → i < length ids → id ≡ get_or ids i id → Attaching s ids i old now → ((k : ℕ) → has new.attached k ≡ (has now.attached k || eqb id k)) → new.declared ≡ now.declared → ((t : Trace) → Follows now s t → Follows new s t)
     → Attaching s ids (i + 1) old new
@@ -116,19 +112,3 @@ set_up_ready s ids w w' t each att known le follows empty = record {
   at_place [] k lt = absurd (omega arith)
   at_place (y ∷ c) zero lt = or_left (eqb y y) (has c y) (eq-eqb y y refl)
   at_place (y ∷ c) (suc k) lt = or_right (eqb y (get_or c k 0)) (has c (get_or c k 0)) (at_place c k (omega arith))
-
--- an empty clause
-pub refuted_at : (s : List (Option Stored)) (id : ℕ) (lits : List ℕ) → is_firm (slot s id) ≡ true → lits ≡ slot_lits (slot s id) → length lits ≡ 0 → has_empty (firm s) ≡ true
-refuted_at s id lits firm' is nil = some_from (λ c. eqb (length c) 0) s id firm' (eq-eqb (length (slot_lits (slot s id))) 0 (ap length (sym is) ∙ nil))
-
-pub not_refuted : (s : List (Option Stored)) (ids : List ℕ) (i : ℕ) → HasEachOnce (firm_at s) ids → length ids ≤ i → ((k : ℕ) → k < i → length (slot_lits (slot s (get_or ids k 0))) ≡ 0 → ⊥) → has_empty (firm s) ≡ false
-not_refuted s ids i each past h =
-    false_from_ne_true (has_empty (firm s)) (λ y.
-    let r = some_of (λ c. eqb (length c) 0) s y in
-    let k = place_of (firm_at s) ids r.0 each r.1 in
-    let lt = k.1 in
-    h k.0 (omega arith) (subst (λ (z : ℕ). length (slot_lits (slot s z)) ≡ 0) (sym k.2) (eqb-true (length (slot_lits (slot s r.0))) 0 r.2)))
-
--- where no variable is free nothing was parked
-pub for_any : (frozen : ℕ → Bool) (s t : State) → Ruled always s t → Ruled frozen s t
-for_any frozen s t h = ruled_weaken always frozen s t (λ v e. absurd (false≢true (sym e))) h

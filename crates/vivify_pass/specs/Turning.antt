@@ -12,12 +12,8 @@ use Rattle.vivify_pass.specs.declared.turn.Turn.TheVariants.{Same, Shorter, Full
 use Rattle.vivify_pass.specs.declared.turn.Round.{Round}
 use Rattle.vivify_pass.specs.declared.turn.Round.TheVariants.{Unchanged, Changed, Stopped}
 use Rattle.firm_terms.specs.Firm.{firm_size, lits_sum}
-use Rattle.firm_terms.specs.Vivifying.{Calm, NoneShortens}
+use Rattle.firm_terms.specs.Vivifying.{Calm, AllCalm, NoneShortens}
 use Rattle.vivify_pass.specs.Trailing.{Ready}
-
--- no variable is free to be a witness
-abbrev pub always : ℕ → Bool
-always v = true
 
 -- the rule does not shorten the clause of an id
 pub record StaysSame (s t : State) (w : Watching) (trail : Trace) (id a b limit : ℕ)
@@ -100,6 +96,11 @@ pub record ReachesLimit (s t : List (Option Stored)) (limit b : ℕ) : Type 0 wh
   pub some : 0 < lits_sum s
   pub fell : b / lits_sum s ≤ lits_sum s - lits_sum t
   pub below : limit < lits_sum s * (lits_sum s + 1)
+
+-- how the rounds ended
+abbrev pub Rests : List (Option Stored) → List (Option Stored) → ℕ → Ended → Type 0
+Rests s t limit Fixpoint = AllCalm t
+Rests s t limit (Limit b) = ReachesLimit s t limit b
 
 -- how the pass ended
 abbrev pub Ends : List (Option Stored) → List (Option Stored) → ℕ → Ended → Type 0

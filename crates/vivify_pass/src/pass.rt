@@ -15,6 +15,8 @@ ghost use Rattle.clause_store.specs.Stored.{Stored};
 ghost use Rattle.rule_kernel.specs.Frozen.{is_frozen};
 ghost use Rattle.rule_kernel.specs.declared.report.Ended.TheVariants.{Fixpoint};
 ghost use Rattle.firm_terms.specs.Firm.{firm, has_empty};
+ghost use Rattle.firm_terms.specs.Vivifying.{AllCalm};
+ghost use Rattle.rule_kernel.specs.Rules.{SameButMarks};
 ghost use Rattle.pass_terms.specs.Ruled.{Ruled};
 ghost use Rattle.trail_state.specs.Trail.{Trace};
 ghost use Rattle.watch_lists.specs.Propagation.{Follows};
@@ -24,27 +26,14 @@ ghost use Rattle.vivify_pass.specs.Turning.{Ends};
 use crate::setup::{attach_all, last_var};
 use crate::turn::rounds;
 use clause_store::store::Store;
+use pass_terms::refuted::is_refuted;
 use rule_kernel::frozen::Frozen;
 use rule_kernel::kernel::Kernel;
 use rule_kernel::report::{Ended, PassReport};
 use sat_model::literal::Var;
 use sat_model::memory::Memory;
-use std::alloc::Global;
 use trail_state::trail::Trail;
 use watch_lists::watches::Watches;
-
-// Whether an empty clause is firm.
-fn is_refuted(store: &Store) -> bool
-    ensures { result ≡ has_empty (firm store.now) }
-{
-    for id in store.firm_ids() {
-        let count = store.get(*id).len();
-        if count == 0 {
-            return true;
-        }
-    }
-    false
-}
 
 // Declares the variables up to a number.
 fn declare_to(last: u32, watches: &mut Watches, trail: &mut Trail) -> Result<(), Memory>
@@ -83,6 +72,17 @@ fn set_up(store: &Store, watches: &mut Watches, trail: &mut Trail) -> Result<(),
     Ok(())
 }
 
+// The kernel remembers an end at which vivification shortens no clause.
+fn remember(kernel: &mut Kernel, ended: Ended)
+    requires { ended ≡ Fixpoint → AllCalm kernel.old.store }
+    ensures { SameButMarks kernel.old kernel.new }
+{
+    match ended {
+        Ended::Fixpoint => kernel.settle_calm(),
+        Ended::Limit(_) => {}
+    }
+}
+
 /// Shortens firm clauses by unit propagation over the other firm clauses, until a whole round
 /// shortens none (`Fixpoint`), or until as many steps were counted as `limit` and one more is
 /// needed (`Limit`). A step is a literal that is assumed. With L the sum of the lengths of the
@@ -92,13 +92,9 @@ fn set_up(store: &Store, watches: &mut Watches, trail: &mut Trail) -> Result<(),
 /// The kernel changes by its rules alone, as passes may use them (`Ruled`), whatever is answered:
 /// after `Memory` it is as the last rule left it. No clause is parked, whatever is frozen.
 /// `removed` is the rise of the kernel's count of removals. Where an empty clause is firm,
-/// nothing changes, and the answer is `Fixpoint`.
-pub fn run(
-    alloc: Global,
-    kernel: &mut Kernel,
-    frozen: &Frozen,
-    limit: u64,
-) -> Result<PassReport, Memory>
+/// nothing changes, and the answer is `Fixpoint`. So it is, at once, where no clause came since a
+/// run that ended so, for the kernel remembers it.
+pub fn run(kernel: &mut Kernel, frozen: &Frozen, limit: u64) -> Result<PassReport, Memory>
     ensures ruled { Ruled (is_frozen frozen.now) kernel.old kernel.new }
     ensures removed { IfOk result (λ report.
         report.removed ≡ kernel.new.removals - kernel.old.removals) }
@@ -111,16 +107,24 @@ pub fn run(
     // Nothing is parked, so nothing need be asked of it.
     let _ = frozen;
     let removals = kernel.removals();
+    if kernel.is_calm() {
+        return Ok(PassReport {
+            removed: 0,
+            ended: Ended::Fixpoint,
+        });
+    }
     if is_refuted(kernel.store()) {
         return Ok(PassReport {
             removed: 0,
             ended: Ended::Fixpoint,
         });
     }
+    let alloc = kernel.alloc();
     let mut trail = Trail::new(alloc);
     let mut watches = Watches::new(alloc);
     set_up(kernel.store(), &mut watches, &mut trail)?;
     let ended = rounds(alloc, kernel, &mut watches, &mut trail, limit)?;
+    remember(kernel, ended);
     Ok(PassReport {
         removed: kernel.removals().saturating_sub(removals),
         ended,

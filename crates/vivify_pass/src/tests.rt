@@ -74,7 +74,7 @@ fn write_firm(alloc: Global, text: &mut String, kernel: &Kernel) -> Result<(), F
 // Runs the pass with no variable frozen.
 fn run_free(alloc: Global, kernel: &mut Kernel, limit: u64) -> Result<PassReport, Fail> {
     let frozen = Frozen::new(alloc);
-    Ok(run(alloc, kernel, &frozen, limit)?)
+    Ok(run(kernel, &frozen, limit)?)
 }
 
 // A kernel, with a learned clause, and what the pass makes of it.

@@ -12,9 +12,9 @@
 ghost use Rattle.std.specs.Prelude.{◌≡◌, ◌≤◌, length, true, IfOk};
 ghost use Rattle.clause_store.specs.Stored.{slot, is_firm};
 ghost use Rattle.clause_store.specs.Listing.{HasEachOnce, firm_at};
-ghost use Rattle.pass_terms.specs.Ruled.{Ruled};
+ghost use Rattle.pass_terms.specs.Ruled.{Ruled, always};
 ghost use Rattle.vivify_pass.specs.Trailing.{Ready};
-ghost use Rattle.vivify_pass.specs.Turning.{always, AreFirm, Turned, Tried, Ends};
+ghost use Rattle.vivify_pass.specs.Turning.{AreFirm, Turned, Tried, Rests};
 
 use crate::probe::probe;
 use rule_kernel::kernel::Kernel;
@@ -165,7 +165,7 @@ pub(crate) fn rounds(
 ) -> Result<Ended, Memory>
     requires { Ready kernel.old.store watches.old trail.old }
     ensures ruled { Ruled always kernel.old kernel.new }
-    ensures ended { IfOk result (λ ended. Ends kernel.old.store kernel.new.store limit ended) }
+    ensures ended { IfOk result (λ ended. Rests kernel.old.store kernel.new.store limit ended) }
 {
     let mut ids = Vec::from_slice(alloc, kernel.store().firm_ids())?;
     let mut start = 0;

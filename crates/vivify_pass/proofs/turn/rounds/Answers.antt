@@ -1,6 +1,6 @@
 use Rattle.pass_terms.specs.Ruled.Ruled.{none}
 use Rattle.pass_terms.proofs.Ruling.{ruled_trans}
-use Rattle.vivify_pass.specs.Turning.{always}
+use Rattle.pass_terms.specs.Ruled.{always}
 use Rattle.vivify_pass.proofs.Circling.{circling_none, circling_more, circling_full, circling_end}
 use Rattle.vivify_pass.proofs.turn.rounds.Goals as goal
 
