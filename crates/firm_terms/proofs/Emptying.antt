@@ -13,7 +13,6 @@ pub firm_read : (s : List (Option Stored)) (ids : List ℕ) (i id : ℕ) → Has
 firm_read s ids i id each in' read =
     subst (λ (z : ℕ). is_firm (slot s z) ≡ true) (sym (read ∙ get_or_default ids i id 0 in')) (listed (firm_at s) ids i each in')
 
-
 -- a clause that is empty, and none
 pub refuted_at : (s : List (Option Stored)) (id : ℕ) (lits : List ℕ) → is_firm (slot s id) ≡ true → lits ≡ slot_lits (slot s id) → length lits ≡ 0 → has_empty (firm s) ≡ true
 refuted_at s id lits firm' is nil = some_from (λ c. eqb (length c) 0) s id firm' (eq-eqb (length (slot_lits (slot s id))) 0 (ap length (sym is) ∙ nil))

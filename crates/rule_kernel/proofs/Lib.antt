@@ -1,3 +1,4 @@
+pub mod Absent
 pub mod Chained
 pub mod Examples
 pub mod Keeping

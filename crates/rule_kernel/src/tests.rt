@@ -111,27 +111,49 @@ fn restore_every_second(kernel: &mut Kernel) -> Result<(), Fail> {
     Ok(())
 }
 
-// Takes all marks off.
-fn unmark_all(kernel: &mut Kernel) {
-    for _turn in 0..kernel.marked_vars().len() {
-        if kernel.marked_vars().len() > 0 {
-            kernel.unmark_var(kernel.marked_vars()[0]);
-        }
-    }
-    for _turn in 0..kernel.marked_lits().len() {
-        if kernel.marked_lits().len() > 0 {
-            kernel.unmark_lit(kernel.marked_lits()[0]);
+// Takes a variable's mark off, where it stands in no firm clause.
+fn settle_absent_var(kernel: &mut Kernel, var: Var) {
+    let positive = kernel.store().occ(var.positive()).len();
+    let negative = kernel.store().occ(var.negative()).len();
+    if positive == 0 {
+        if negative == 0 {
+            kernel.settle_var(var);
         }
     }
 }
 
-// How many clauses are firm, and how many stand on the stack; how many variables are marked, and how many literals.
-fn figures(kernel: &Kernel) -> [usize; 4] {
+// Takes a literal's mark off, where it stands in no firm clause.
+fn settle_absent_lit(kernel: &mut Kernel, lit: Lit) {
+    let count = kernel.store().occ(lit).len();
+    if count == 0 {
+        kernel.settle_lit(lit);
+    }
+}
+
+// Takes all marks off, where the clauses of all variables are gone.
+fn settle_all(kernel: &mut Kernel) {
+    for _turn in 0..kernel.marked_vars().len() {
+        if kernel.marked_vars().len() > 0 {
+            settle_absent_var(kernel, kernel.marked_vars()[0]);
+        }
+    }
+    for _turn in 0..kernel.marked_lits().len() {
+        if kernel.marked_lits().len() > 0 {
+            settle_absent_lit(kernel, kernel.marked_lits()[0]);
+        }
+    }
+}
+
+// How many clauses are firm, and how many stand on the stack; how many variables are marked, and how many literals; how many clauses are
+// due, and how many fresh.
+fn figures(kernel: &Kernel) -> [usize; 6] {
     [
         kernel.store().firm_ids().len(),
         kernel.stack().len(),
         kernel.marked_vars().len(),
         kernel.marked_lits().len(),
+        kernel.due().len(),
+        kernel.fresh().len(),
     ]
 }
 
@@ -173,7 +195,7 @@ fn clauses_come_and_go(rt: HostRuntime) -> Result<(), Fail> {
     assert!(rt; has_only(&kernel, first, &[one]));
     assert!(rt; kernel.store().redundant_ids().is_empty());
     // The learned clause marks nothing, and the one that was dropped its variables and the negations of its literals.
-    assert_eq!(rt; figures(&kernel), [1, 0, 2, 4]);
+    assert_eq!(rt; figures(&kernel), [1, 0, 2, 4, 1, 1]);
     Ok(())
 }
 
@@ -182,12 +204,14 @@ fn tall_stacks_of_long_clauses(rt: HostRuntime) -> Result<(), Fail> {
     let mut kernel = Kernel::new(rt.alloc());
     park_rows(&mut kernel, rt.alloc())?;
     // Each clause came and went, so both literals of each variable are marked.
-    assert_eq!(rt; figures(&kernel), [0, 300, 604, 1208]);
-    unmark_all(&mut kernel);
-    assert_eq!(rt; figures(&kernel), [0, 300, 0, 0]);
+    assert_eq!(rt; figures(&kernel), [0, 300, 604, 1208, 0, 0]);
+    settle_all(&mut kernel);
+    assert_eq!(rt; figures(&kernel), [0, 300, 0, 0, 0, 0]);
     restore_every_second(&mut kernel)?;
     kernel.compact()?;
-    assert_eq!(rt; figures(&kernel), [150, 150, 602, 602]);
+    assert_eq!(rt; figures(&kernel), [150, 150, 602, 602, 150, 150]);
+    kernel.make_all_due();
+    assert_eq!(rt; figures(&kernel), [150, 150, 602, 602, 150, 0]);
     assert_eq!(rt; [kernel.removals(), kernel.restores()], [300, 150]);
     Ok(())
 }
