@@ -1,12 +1,14 @@
 //! A store and a trail that is rooted in it, built step by step.
 //!
 //! Literals are written as DIMACS writes them. A step that may not be taken fails the test.
-ghost use Rattle.std.specs.Prelude.{◌≡◌, ◌≢◌, ◌≤◌, ◌<◌, ℕ, true, [], length, map, IfOk, OnOk, IsSome, None, slice_index_or};
-ghost use Rattle.sat_terms.specs.Literal.{var_of};
-ghost use Rattle.clause_store.specs.Stored.{slot, slot_lits};
+ghost use Rattle.std.specs.Prelude.{◌≡◌, ◌≢◌, ◌≤◌, ◌<◌, ℕ, true, [], map, IfOk, OnOk, OnErr, IsSome, None};
+ghost use Rattle.sat_terms.specs.Literal.{var_of, code_of};
+ghost use Rattle.clause_store.specs.Stored.{slot, slot_lits, Fills};
+ghost use Rattle.clause_store.specs.declared.stored.Keep.TheVariants.{Firm};
 ghost use Rattle.trail_state.specs.Trail.{value_on};
 ghost use Rattle.trail_state.specs.Clauses.{FalseOn, IsUnit};
 ghost use Rattle.rooted_trails.specs.Rooted.{Rooted};
+ghost use Rattle.rooted_scenes.specs.Staged.{IsNamed, Decides, Assigns};
 
 use clause_store::store::Store;
 use clause_store::stored::Keep;
@@ -42,7 +44,9 @@ impl Model for Scene {
 }
 
 /// The literal of a DIMACS number.
-pub fn lit(number: i32) -> Result<Lit, Fail> {
+pub fn lit(number: i32) -> Result<Lit, Fail>
+    ensures { IfOk result (λ lit. lit ≡ code_of number) }
+{
     match Lit::new(number) {
         Some(lit) => Ok(lit),
         None => Err("no literal")?,
@@ -50,7 +54,9 @@ pub fn lit(number: i32) -> Result<Lit, Fail> {
 }
 
 /// The literals of DIMACS numbers.
-pub fn lits(alloc: Global, numbers: &[i32]) -> Result<Vec<Lit>, Fail> {
+pub fn lits(alloc: Global, numbers: &[i32]) -> Result<Vec<Lit>, Fail>
+    ensures { IfOk result (λ lits. lits.items ≡ map code_of numbers.now) }
+{
     let mut lits = Vec::new(alloc);
     for number in numbers {
         lits.push(lit(*number)?)?;
@@ -59,7 +65,9 @@ pub fn lits(alloc: Global, numbers: &[i32]) -> Result<Vec<Lit>, Fail> {
 }
 
 /// The clause of a number: those of the list are numbered from 1 on.
-pub fn named(ids: &[ClauseId], number: usize) -> Result<ClauseId, Fail> {
+pub fn named(ids: &[ClauseId], number: usize) -> Result<ClauseId, Fail>
+    ensures { IfOk result (λ id. IsNamed ids.now number id) }
+{
     for (k, id) in ids.iter().enumerate() {
         if k + 1 == number {
             return Ok(*id);
@@ -113,7 +121,12 @@ pub fn is_false(trail: &Trail, clause: &[Lit]) -> bool
 
 impl Scene {
     /// No clause, and the variables up to this one declared.
-    pub fn new(alloc: Global, vars: u32) -> Result<Scene, Fail> {
+    pub fn new(alloc: Global, vars: u32) -> Result<Scene, Fail>
+        ensures store { IfOk result (λ scene. scene.store ≡ []) }
+        ensures steps { IfOk result (λ scene. scene.trail.steps ≡ []) }
+        ensures level { IfOk result (λ scene. scene.trail.level ≡ 0) }
+        ensures declared { IfOk result (λ scene. scene.trail.declared ≡ vars) }
+    {
         let last = Var::new(vars).ok_or("no variable")?;
         let mut trail = Trail::new(alloc);
         trail.declare(last)?;
@@ -146,7 +159,12 @@ impl Scene {
     }
 
     /// Adds a clause, which must be in normal form.
-    pub fn add(&mut self, numbers: &[i32]) -> Result<ClauseId, Fail> {
+    pub fn add(&mut self, numbers: &[i32]) -> Result<ClauseId, Fail>
+        ensures ok { IfOk result (λ id. Fills self.old.store self.new.store id
+            (record { lits = map code_of numbers.now; keep = Firm; glue = 0 })) }
+        ensures err { OnErr result (self.new.store ≡ self.old.store) }
+        ensures trail { self.new.trail ≡ self.old.trail }
+    {
         let clause = lits(self.alloc, numbers)?;
         if !is_normal(clause.as_slice()) {
             Err("not in normal form")?;
@@ -155,7 +173,11 @@ impl Scene {
     }
 
     /// Decides a literal.
-    pub fn decide(&mut self, number: i32) -> Result<(), Fail> {
+    pub fn decide(&mut self, number: i32) -> Result<(), Fail>
+        ensures ok { OnOk result (Decides self.old.trail self.new.trail (code_of number)) }
+        ensures err { OnErr result (self.new.trail ≡ self.old.trail) }
+        ensures store { self.new.store ≡ self.old.store }
+    {
         let lit = lit(number)?;
         if !is_open(&self.trail, lit) {
             Err("it has a value, or is not declared")?;
@@ -165,7 +187,11 @@ impl Scene {
     }
 
     /// Assigns a literal that a clause implies.
-    pub fn imply(&mut self, number: i32, reason: ClauseId) -> Result<(), Fail> {
+    pub fn imply(&mut self, number: i32, reason: ClauseId) -> Result<(), Fail>
+        ensures ok { OnOk result (Assigns self.old.trail self.new.trail (code_of number) reason) }
+        ensures err { OnErr result (self.new.trail ≡ self.old.trail) }
+        ensures store { self.new.store ≡ self.old.store }
+    {
         let lit = lit(number)?;
         if is_implied(&self.store, &self.trail, lit, reason) {
             self.trail.assign(lit, Reason::Clause(reason));
@@ -176,7 +202,14 @@ impl Scene {
 
     /// Puts a literal on the trail: decided where the number of its reason is 0, and else implied by
     /// the clause of that number.
-    pub fn put(&mut self, ids: &[ClauseId], number: i32, reason: usize) -> Result<(), Fail> {
+    pub fn put(&mut self, ids: &[ClauseId], number: i32, reason: usize) -> Result<(), Fail>
+        ensures decided { reason ≡ 0 → OnOk result (Decides self.old.trail self.new.trail
+            (code_of number)) }
+        ensures implied { 0 < reason → OnOk result ((id : ℕ) × IsNamed ids.now reason id
+            × Assigns self.old.trail self.new.trail (code_of number) id) }
+        ensures err { OnErr result (self.new.trail ≡ self.old.trail) }
+        ensures store { self.new.store ≡ self.old.store }
+    {
         if reason == 0 {
             return self.decide(number);
         }

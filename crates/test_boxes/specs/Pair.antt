@@ -85,10 +85,10 @@ pub record IsDue (b : Board) (from to : ℕ) : Type 0 where
   pub premise : trail_value b.seen (neg from) ≡ Some false
   pub free : trail_value b.seen to ≡ None
 
+-- a literal that was told at the root, and not as a decision
+abbrev pub told : ℕ → Seen
+told l = record { lit = l; level = 0; decision = false }
+
 -- a desk on which the variables 1 and 2 are observed, and false
 abbrev pub both_false : Board
-both_false = record empty_board {
-  observed = 1 ∷ 2 ∷ [];
-  seen = record { lit = 3; level = 0; decision = false }
-      ∷ record { lit = 5; level = 0; decision = false } ∷ [];
-}
+both_false = record empty_board { observed = 1 ∷ 2 ∷ []; seen = told 3 ∷ told 5 ∷ [] }

@@ -16,8 +16,8 @@
 //! steady box may hand it. If one of them is not observed it may not, nor may it ask for it; it then
 //! answers `Memory`, which a driver that observes the scope never meets.
 //!
-//! Imply, beside it, has the same clause and speaks as soon as it can. The tests show that a model
-//! passes which makes the clause true.
+//! Imply, beside it, has the same clause and speaks as soon as it can. The tests show a model that
+//! passes, and one that is refused, where both variables are observed and false.
 ghost use Rattle.std.specs.Prelude.{◌≡◌, ℕ, OnOk, OnErr};
 ghost use Rattle.user_propagator.specs.Meaning.{Admitted, Refused, KeptByAdmit, CalledBack};
 ghost use Rattle.user_propagator.specs.Meaning.{StandsAt, IsReasonGiven};

@@ -13,7 +13,7 @@ use Rattle.sat_model.specs.declared.constraint.Constraint.TheVariants.{AtLeast, 
 use Rattle.sat_model.specs.declared.constraint.Kind.{Kind}
 use Rattle.user_propagator.specs.declared.seen.Seen.{Seen}
 use Rattle.user_propagator.specs.Board.{Board, Handed, SeenTrail, trail_of, trail_value, entry}
-use Rattle.user_propagator.specs.Board.{within, empty_trail}
+use Rattle.user_propagator.specs.Board.{within}
 
 pub record Meaning : Type 0 where
   -- the assignments that the propagator lets pass
