@@ -1,2 +1,4 @@
 pub mod Clashing
 pub mod Asking
+pub mod Weighing
+pub mod Counting
