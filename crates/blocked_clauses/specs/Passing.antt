@@ -4,6 +4,9 @@ use Rattle.sat_terms.specs.Literal.{has, var_of}
 use Rattle.clause_store.specs.Stored.{Stored, keeps_firm}
 use Rattle.firm_terms.specs.Firm.{firm, lits_sum}
 use Rattle.firm_terms.specs.Resolving.{BlocksNone}
+use Rattle.rule_kernel.specs.declared.report.Ended.{Ended}
+use Rattle.rule_kernel.specs.declared.report.Ended.TheVariants.{Fixpoint, Limit}
+use Rattle.rule_kernel.specs.declared.report.PassReport.{PassReport}
 
 -- how many literals of a slot's clause pass a test, if it is firm, and the sum over a store
 abbrev pub passing_size : (ℕ → Bool) → Option Stored → ℕ
@@ -28,3 +31,16 @@ pub record ReachesLimit (s t : List (Option Stored)) (limit b : ℕ) : Type 0 wh
   pub full : b ≡ limit
   pub parked : b / most_between s ≤ length (firm s) - length (firm t)
   pub below : limit < most_between s * (length (firm s) + 1)
+
+-- how the pass ended
+abbrev pub Ends : (ℕ → Bool) → List (Option Stored) → List (Option Stored) → ℕ → Ended → Type 0
+Ends frozen s t limit Fixpoint = NoneBlocked frozen t
+Ends frozen s t limit (Limit b) = ReachesLimit s t limit b
+
+-- all of some literals are those of frozen variables
+abbrev pub AllFrozen : (ℕ → Bool) → List ℕ → Type 0
+AllFrozen frozen lits = (l : ℕ) → has lits l ≡ true → frozen (var_of l) ≡ true
+
+-- what is reported where there is nothing to do
+abbrev pub nothing_done : PassReport
+nothing_done = record { removed = 0; ended = Fixpoint }
