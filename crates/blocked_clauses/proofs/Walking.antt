@@ -22,13 +22,13 @@ use Rattle.blocked_clauses.proofs.Counting.{spent_settled, spent_parked, spent_f
 pub swap_before : (xs : List ℕ) (i k d e : ℕ) → k < i → i < length xs → get_or (swap_remove xs i d) k e ≡ get_or xs k e
 swap_before xs i k d e lt in' =
     let y : List ℕ = set xs i (get_or xs (length xs - 1) d) in
-    get_or-take y (length xs - 1) k e (omega arith) ∙ get_or-set_other xs i k (get_or xs (length xs - 1) d) e (λ q. absurd (omega arith))
+    get_or-take (length xs - 1) y k e (omega arith) ∙ get_or-set_other xs i k (get_or xs (length xs - 1) d) e (λ q. absurd (omega arith))
 
 pub swap_length : (xs : List ℕ) (i d : ℕ) → i < length xs → length (swap_remove xs i d) + 1 ≡ length xs
 swap_length xs i d in' =
     let y : List ℕ = set xs i (get_or xs (length xs - 1) d) in
     let a = length-set xs i (get_or xs (length xs - 1) d) in
-    let b = length-take-le y (length xs - 1) (omega arith) in
+    let b = length-take-le (length xs - 1) y (omega arith) in
     omega (arith, b)
 
 -- what holds while a walk goes on
@@ -52,6 +52,12 @@ module _ (frozen : ℕ → Bool) (s t : State) (from place a b limit l : ℕ) (w
 
   marked : has t.marked.lits l ≡ true
   marked = has_at t.marked.lits place l in' read
+
+  few_negs : occurrences t.store (neg l) ≤ length (firm s.store)
+  few_negs =
+      let few = occurs_le_firm t.store (neg l) in
+      let same = ap (λ (z : List (Option Stored)). length (firm z)) w.unmarks.store in
+      omega arith
 
   pub walking_passed : frozen (var_of l) ≡ true → Walking frozen s t from (place + 1) a b limit
   walking_passed f = record {
@@ -82,9 +88,7 @@ module _ (frozen : ℕ → Bool) (s t : State) (from place a b limit l : ℕ) (w
             (h.lits l ∙ and_right (has t.marked.lits l) (not (eqb l l)) (ap not (eq-eqb l l refl)))
             marked in
           let sum : marked_sum u ≡ passing_sum (has u.marked.lits) t.store = ap (passing_sum (has u.marked.lits)) h.rest.store in
-          let few : occurrences t.store (neg l) ≤ length (firm s.store) =
-            rw w.unmarks.store at (occurs_le_firm t.store (neg l)) in
-          let spent = spent_settled (length (firm s.store)) (marked_sum t) (marked_sum u) (occurrences t.store l) (occurrences t.store (neg l)) b b' (omega arith) few h.steps.few in
+          let spent = spent_settled (length (firm s.store)) (marked_sum t) (marked_sum u) (occurrences t.store l) (occurrences t.store (neg l)) b b' (omega arith) few_negs h.steps.few in
           let before = w.unmarks.spent in
           let fewer = w.unmarks.fewer in
           record {
@@ -99,9 +103,6 @@ module _ (frozen : ℕ → Bool) (s t : State) (from place a b limit l : ℕ) (w
 
       pub walking_shorter : IsSettled t u l b b' limit → length u.marked.lits + 1 ≡ length t.marked.lits
       walking_shorter h = ap (λ (z : List ℕ). length z + 1) (h.place place in' (sym read)) ∙ swap_length t.marked.lits place l in'
-
-      few_negs : occurrences t.store (neg l) ≤ length (firm s.store)
-      few_negs = rw w.unmarks.store at (occurs_le_firm t.store (neg l))
 
       pub walking_parked : IsParked t u l b b' limit → Ruled frozen s u × ParksOne s u a b' limit
       walking_parked h =

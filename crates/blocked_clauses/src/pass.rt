@@ -23,7 +23,7 @@ ghost use Rattle.rule_kernel.specs.declared.report.Ended.TheVariants.{Fixpoint};
 ghost use Rattle.pass_terms.specs.Ruled.{Ruled};
 ghost use Rattle.blocked_clauses.specs.Passing.{Ends, AllFrozen, nothing_done};
 
-use crate::walk::{Walk, walk};
+use crate::walk::{Walk, walk_from};
 use rule_kernel::frozen::Frozen;
 use rule_kernel::kernel::Kernel;
 use rule_kernel::report::{Ended, PassReport};
@@ -38,7 +38,7 @@ fn walks(kernel: &mut Kernel, frozen: &Frozen, limit: u64) -> Result<Ended, Memo
     let mut steps = 0;
     let mut from = 0;
     loop {
-        match walk(kernel, frozen, from, &mut steps, limit)? {
+        match walk_from(kernel, frozen, from, &mut steps, limit)? {
             Walk::Parked(place) => from = place,
             Walk::Full => return Ok(Ended::Limit(steps)),
             Walk::Through => {

@@ -42,7 +42,7 @@ pub(crate) enum Walk {
 }
 
 // Parks a clause that is blocked on a literal; where there is none, the literal's mark goes. After `Memory` nothing changed.
-fn turn(kernel: &mut Kernel, lit: Lit, steps: &mut u64, limit: u64) -> Result<Turn, Memory>
+fn try_lit(kernel: &mut Kernel, lit: Lit, steps: &mut u64, limit: u64) -> Result<Turn, Memory>
     requires { steps.old ≤ limit }
     ensures ok { IfOk result (λ turn. Turned kernel.old kernel.new lit steps.old steps.new limit turn) }
     ensures err { OnErr result (kernel.new ≡ kernel.old) }
@@ -61,7 +61,7 @@ fn turn(kernel: &mut Kernel, lit: Lit, steps: &mut u64, limit: u64) -> Result<Tu
 }
 
 /// Takes the marked literals from a place on, up to the first clause that is parked.
-pub(crate) fn walk(kernel: &mut Kernel, frozen: &Frozen, from: usize, steps: &mut u64, limit: u64) -> Result<Walk, Memory>
+pub(crate) fn walk_from(kernel: &mut Kernel, frozen: &Frozen, from: usize, steps: &mut u64, limit: u64) -> Result<Walk, Memory>
     requires { steps.old ≤ limit }
     ensures ruled { Ruled (is_frozen frozen.now) kernel.old kernel.new }
     ensures walked { IfOk result (λ walk. Walked (is_frozen frozen.now) kernel.old kernel.new from steps.old steps.new limit walk) }
@@ -74,7 +74,7 @@ pub(crate) fn walk(kernel: &mut Kernel, frozen: &Frozen, from: usize, steps: &mu
             place += 1;
             continue;
         }
-        match turn(kernel, lit, steps, limit)? {
+        match try_lit(kernel, lit, steps, limit)? {
             Turn::Settled => {}
             Turn::Parked => return Ok(Walk::Parked(place)),
             Turn::Full => return Ok(Walk::Full),
