@@ -2,3 +2,5 @@ pub mod Clashing
 pub mod Asking
 pub mod Weighing
 pub mod Counting
+pub mod Walking
+pub mod Passing

@@ -37,7 +37,7 @@ fn walks(kernel: &mut Kernel, frozen: &Frozen, limit: u64) -> Result<Ended, Memo
 {
     let mut steps = 0;
     let mut from = 0;
-    loop {
+    'walks: loop {
         match walk_from(kernel, frozen, from, &mut steps, limit)? {
             Walk::Parked(place) => from = place,
             Walk::Full => return Ok(Ended::Limit(steps)),
