@@ -1,5 +1,5 @@
 -- Laws of walks, one after another.
-use Rattle.std.proofs.Common.{◌≡◌, ℕ, ◌+◌, ◌-◌, ◌*◌, ◌<◌, ◌≤◌, Bool, true, false, List, length, get_or, Option, inl, inr, refl, sym, ap, ◌∙◌, arith}
+use Rattle.std.proofs.Common.{◌≡◌, ℕ, ◌+◌, ◌-◌, ◌*◌, ◌<◌, ◌≤◌, Bool, true, false, List, length, get_or, Option, Result, Ok, Err, inl, inr, refl, sym, ap, ◌∙◌, arith}
 use Rattle.std.proofs.lemmas.Bool.{cases_Bool, false≢true}
 use Rattle.sat_terms.specs.Literal.{has, var_of}
 use Rattle.sat_terms.proofs.Members.{has_place}
@@ -11,8 +11,25 @@ use Rattle.pass_terms.specs.Ruled.Ruled.{none}
 use Rattle.pass_terms.proofs.Ruling.{ruled_trans}
 use Rattle.blocked_clauses.specs.Passing.{passing_sum, most_between, NoneBlocked, ReachesLimit, AllFrozen}
 use Rattle.blocked_clauses.specs.Walking.{marked_sum, GoesThrough, ParksOne, RunsOut}
+use Rattle.sat_model.specs.declared.memory.Memory.{Memory}
+use Rattle.blocked_clauses.specs.declared.walk.Walk.{Walk}
+use Rattle.blocked_clauses.specs.declared.walk.Walk.TheVariants.{Through, Parked as Stopped, Full as Cut}
 use Rattle.blocked_clauses.proofs.Weighing.{sum_le_lits}
 use Rattle.blocked_clauses.proofs.Counting.{Within, within_start, within_walked, within_parked, within_full, quotient_below, product_below, product_positive}
+
+-- a walk that parked a clause did not get through
+gets_through : Walk → Bool
+gets_through Through = true
+gets_through (Stopped place) = false
+gets_through Cut = false
+
+through : Result Walk Memory → Bool
+through (Ok walk) = gets_through walk
+through (Err memory) = false
+
+pub not_through : (place : ℕ) → ◌≡◌ {A = Result Walk Memory} (Ok (Stopped place)) (Ok Through) → ⊥
+unfolding through gets_through
+not_through place e = false≢true (ap through e)
 
 -- what holds between two walks
 pub record Passing (frozen : ℕ → Bool) (s t : State) (from b limit : ℕ) : Type 0 where
