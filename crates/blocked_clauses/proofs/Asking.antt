@@ -6,33 +6,20 @@ use Rattle.std.proofs.Math.Nat.{mul-le-mul_left}
 use Rattle.sat_terms.specs.Literal.{has, neg}
 use Rattle.clause_store.specs.Stored.{Stored, slot, slot_lits, is_firm}
 use Rattle.clause_store.specs.Listing.{times, HasEachOnce, holds_at}
-use Rattle.clause_store.proofs.Counts.{times_at, times_place}
 use Rattle.clause_store.proofs.FirmCounts.{lists_count}
 use Rattle.firm_terms.specs.Firm.{Holds}
+use Rattle.firm_terms.proofs.Counting.{listed, place_of}
 use Rattle.firm_terms.specs.Resolving.{resolvent, is_tautology, IsBlocked, BlocksNone}
 use Rattle.blocked_clauses.specs.Seeking.{Counts, ComesFull, IsAll, IsOpen, IsFound, IsNone, occurrences, most_steps}
 
 -- the ids of the clauses with a literal
 pub listed_holds : (s : List (Option Stored)) (l : ℕ) (ids : List ℕ) (k : ℕ) → HasEachOnce (holds_at s l) ids → k < length ids → Holds s (get_or ids k 0) l
 listed_holds s l ids k h in' =
-    let a = times_at ids k in' in
-    let b = h.once (get_or ids k 0) in
-    elim (cases_Bool (holds_at s l (get_or ids k 0))) [
-      | inl y ↦ (let p = and_parts (is_firm (slot s (get_or ids k 0))) (has (slot_lits (slot s (get_or ids k 0))) l) y in record { firm = p.0; has = p.1 })
-      | inr n ↦ absurd (let c : times ids (get_or ids k 0) ≡ 0 = b ∙ rw n refl in omega arith)
-    ]
+    let p = and_parts (is_firm (slot s (get_or ids k 0))) (has (slot_lits (slot s (get_or ids k 0))) l) (listed (holds_at s l) ids k h in') in
+    record { firm = p.0; has = p.1 }
 
 pub holds_listed : (s : List (Option Stored)) (l : ℕ) (ids : List ℕ) (id : ℕ) → HasEachOnce (holds_at s l) ids → Holds s id l → (k : ℕ) × (k < length ids) × (get_or ids k 0 ≡ id)
-holds_listed s l ids id h x =
-    let y : holds_at s l id ≡ true = and_from (is_firm (slot s id)) (has (slot_lits (slot s id)) l) x.firm x.has in
-    let c : times ids id ≡ 1 = h.once id ∙ rw y refl in
-    times_place ids id (omega arith)
-
-pub holds_live : (s : List (Option Stored)) (id l : ℕ) → Holds s id l → IsSome (slot s id)
-holds_live s id l h = go (slot s id) h.firm where
-  go : (x : Option Stored) → is_firm x ≡ true → IsSome x
-  go None f = absurd (false≢true f)
-  go (Some c) f = refl
+holds_listed s l ids id h x = place_of (holds_at s l) ids id h (and_from (is_firm (slot s id)) (has (slot_lits (slot s id)) l) x.firm x.has)
 
 -- the clause was tested against so many of the others
 pub record Asking (s : List (Option Stored)) (id l : ℕ) (others : List ℕ) (i a b limit : ℕ) : Type 0 where

@@ -3,20 +3,19 @@ use Rattle.std.proofs.Common.{◌≡◌, ℕ, suc, zero, ◌+◌, ◌-◌, ◌*�
 use Rattle.std.proofs.lemmas.Bool.{cases_lt}
 use Rattle.std.proofs.Math.Nat.{mul-le-mul_left}
 
--- With m clauses and n literals at the start, and so many clauses parked, the steps and what is still marked, by m + 1 each, are within
--- n (m + 1) for each of these clauses and once more.
-abbrev pub Within : ℕ → ℕ → ℕ → ℕ → ℕ → Type 0
-Within m n parked marked steps = steps + marked * (m + 1) ≤ n * (m + 1) * (parked + 1)
+-- With m clauses and n literals at the start, w0 of these marked, and so many clauses parked, the steps and what is still marked, by m + 1
+-- each, are within w0 and n for each of these clauses, by m + 1 each.
+abbrev pub Within : ℕ → ℕ → ℕ → ℕ → ℕ → ℕ → Type 0
+Within m n w0 parked marked steps = steps + marked * (m + 1) ≤ (w0 + n * parked) * (m + 1)
 
 -- the steps of a search on a literal that o clauses hold, and q its negation
 most_by : (m o q : ℕ) → q ≤ m → o * max 1 q ≤ o * (m + 1)
 most_by m o q le = mul-le-mul_left o (omega arith)
 
-pub within_start : (m n w : ℕ) → w ≤ n → Within m n (m - m) w 0
-within_start m n w le =
-    let z : m - m + 1 ≡ 1 = omega arith in
-    let y : w * (m + 1) ≤ n * (m + 1) = omega (arith, mul-le-mul_left (m + 1) le) in
-    rw z (omega (arith, y))
+pub within_start : (m n w : ℕ) → Within m n w (m - m) w 0
+within_start m n w =
+    let z : m - m ≡ 0 = omega arith in
+    rw z (grind arith)
 
 -- a literal whose mark was taken off
 pub spent_settled : (m w w' o q a b : ℕ) → w' + o ≤ w → q ≤ m → b ≤ a + o * max 1 q → b + w' * (m + 1) ≤ a + w * (m + 1)
@@ -50,19 +49,25 @@ spend m k w w' a b le less h =
       spread : (w w' c d a b : ℕ) → w' * d ≤ w * d → b + w' * c ≤ a + w * c → b + w' * (c + d) ≤ a + w * (c + d)
       spread w w' c d a b x h = grind arith
 
-pub within_walked : (m n p k w w' a b : ℕ) → Within m n p w a → k ≤ m → w' ≤ w → b + w' * (k + 1) ≤ a + w * (k + 1) → Within m n p w' b
-within_walked m n p k w w' a b h le less spent = let x = spend m k w w' a b le less spent in omega (arith, h, x)
+pub within_walked : (m n w0 p k w w' a b : ℕ) → Within m n w0 p w a → k ≤ m → w' ≤ w → b + w' * (k + 1) ≤ a + w * (k + 1) → Within m n w0 p w' b
+within_walked m n w0 p k w w' a b h le less spent = let x = spend m k w w' a b le less spent in omega (arith, h, x)
 
-pub within_parked : (m n p k w w' a b : ℕ) → Within m n p w a → k ≤ m → w' ≤ n → b ≤ a + w * (k + 1) → Within m n (p + 1) w' b
-within_parked m n p k w w' a b h le wn spent =
+pub within_parked : (m n w0 p k w w' a b : ℕ) → Within m n w0 p w a → k ≤ m → w' ≤ n → b ≤ a + w * (k + 1) → Within m n w0 (p + 1) w' b
+within_parked m n w0 p k w w' a b h le wn spent =
     let x = fewer m k w le in
     let z : w' * (m + 1) ≤ n * (m + 1) = omega (arith, mul-le-mul_left (m + 1) wn) in
-    omega (arith, h, x, z, spent)
+    let e : (w0 + n * (p + 1)) * (m + 1) ≡ (w0 + n * p) * (m + 1) + n * (m + 1) = grind arith in
+    omega (arith, h, x, z, e, spent)
 
-pub within_full : (m n p k w a b : ℕ) → Within m n p w a → k ≤ m → b < a + w * (k + 1) → b < (n + 1) * (m + 1) * (p + 1)
-within_full m n p k w a b h le spent =
-    let x = fewer m k w le in
-    omega (arith, h, x, spent)
+pub within_full : (m n w0 p k w a b : ℕ) → Within m n w0 p w a → k ≤ m → b < a + w * (k + 1) → b < (w0 + n * p) * (m + 1)
+within_full m n w0 p k w a b h le spent = let x = fewer m k w le in omega (arith, h, x, spent)
+
+-- no more literals are marked than there are
+pub full_below : (m n w0 p b : ℕ) → w0 ≤ n → b < (w0 + n * p) * (m + 1) → b < (n + 1) * (m + 1) * (p + 1)
+full_below m n w0 p b le h =
+    let x : (w0 + n * p) * (m + 1) ≤ (n + n * p) * (m + 1) = omega (arith, mul-le-mul_left (m + 1) (let y : w0 + n * p ≤ n + n * p = omega arith in y)) in
+    let e : (n + 1) * (m + 1) * (p + 1) ≡ (n + n * p) * (m + 1) + (m + 1) * (p + 1) = grind arith in
+    omega (arith, h, x, e)
 
 -- what the product says of the quotient
 pub quotient_below : (b d g : ℕ) → 0 < d → b < d * (g + 1) → b / d ≤ g

@@ -9,13 +9,13 @@ use Rattle.rule_kernel.specs.State.{State, IsPromised}
 use Rattle.pass_terms.specs.Ruled.{Ruled}
 use Rattle.pass_terms.specs.Ruled.Ruled.{none}
 use Rattle.pass_terms.proofs.Ruling.{ruled_trans}
-use Rattle.blocked_clauses.specs.Passing.{passing_sum, most_between, NoneBlocked, ReachesLimit, AllFrozen}
-use Rattle.blocked_clauses.specs.Walking.{marked_sum, GoesThrough, ParksOne, RunsOut}
+use Rattle.blocked_clauses.specs.Passing.{passing_sum, marked_sum, gone, most_between, NoneBlocked, ReachesLimit, AllFrozen}
+use Rattle.blocked_clauses.specs.Walking.{GoesThrough, ParksOne, RunsOut}
 use Rattle.sat_model.specs.declared.memory.Memory.{Memory}
 use Rattle.blocked_clauses.specs.declared.walk.Walk.{Walk}
 use Rattle.blocked_clauses.specs.declared.walk.Walk.TheVariants.{Through, Parked as Stopped, Full as Cut}
 use Rattle.blocked_clauses.proofs.Weighing.{sum_le_lits}
-use Rattle.blocked_clauses.proofs.Counting.{Within, within_start, within_walked, within_parked, within_full, quotient_below, product_below, product_positive}
+use Rattle.blocked_clauses.proofs.Counting.{Within, within_start, within_walked, within_parked, within_full, full_below, quotient_below, product_below, product_positive}
 
 -- a walk that parked a clause did not get through
 gets_through : Walk → Bool
@@ -36,7 +36,7 @@ pub record Passing (frozen : ℕ → Bool) (s t : State) (from b limit : ℕ) : 
   pub ruled : Ruled frozen s t
   pub fewer : length (firm t.store) ≤ length (firm s.store)
   pub shorter : lits_sum t.store ≤ lits_sum s.store
-  pub spent : Within (length (firm s.store)) (lits_sum s.store) (length (firm s.store) - length (firm t.store)) (marked_sum t) b
+  pub spent : Within (length (firm s.store)) (lits_sum s.store) (marked_sum s) (gone s t) (marked_sum t) b
   pub rest : b ≤ limit
   pub idle : AllFrozen frozen s.marked.lits → (t ≡ s) × (from ≡ 0)
 
@@ -45,7 +45,7 @@ passing_start frozen s limit = record {
   ruled = none;
   fewer = omega arith;
   shorter = omega arith;
-  spent = within_start (length (firm s.store)) (lits_sum s.store) (marked_sum s) (sum_le_lits (has s.marked.lits) s.store);
+  spent = within_start (length (firm s.store)) (lits_sum s.store) (marked_sum s);
   rest = omega arith;
   idle = λ h. (refl, refl);
 }
@@ -61,7 +61,7 @@ module _ (frozen : ℕ → Bool) (s t u : State) (from a b limit : ℕ) (p : Pas
         ruled = ruled_trans frozen s t u p.ruled r;
         fewer = omega arith;
         shorter = omega arith;
-        spent = rw same (within_walked (length (firm s.store)) (lits_sum s.store) (length (firm s.store) - length (firm t.store)) (length (firm t.store)) (marked_sum t) (marked_sum u) a b p.spent p.fewer h.unmarks.fewer h.unmarks.spent);
+        spent = rw same (within_walked (length (firm s.store)) (lits_sum s.store) (marked_sum s) (gone s t) (length (firm t.store)) (marked_sum t) (marked_sum u) a b p.spent p.fewer h.unmarks.fewer h.unmarks.spent);
         rest = h.unmarks.rest;
         idle = λ i. absurd (busy i);
       }
@@ -73,27 +73,29 @@ module _ (frozen : ℕ → Bool) (s t u : State) (from a b limit : ℕ) (p : Pas
       let fewer = p.fewer in
       let shorter = p.shorter in
       let weight = sum_le_lits (has u.marked.lits) u.store in
-      let one : length (firm s.store) - length (firm u.store) ≡ length (firm s.store) - length (firm t.store) + 1 = omega arith in
+      let one : gone s u ≡ gone s t + 1 = omega arith in
       record {
         ruled = ruled_trans frozen s t u p.ruled r;
         fewer = omega arith;
         shorter = omega arith;
-        spent = rw one (within_parked (length (firm s.store)) (lits_sum s.store) (length (firm s.store) - length (firm t.store)) (length (firm t.store)) (marked_sum t) (marked_sum u) a b p.spent p.fewer (omega arith) h.spent);
+        spent = rw one (within_parked (length (firm s.store)) (lits_sum s.store) (marked_sum s) (gone s t) (length (firm t.store)) (marked_sum t) (marked_sum u) a b p.spent p.fewer (omega arith) h.spent);
         rest = h.rest;
         idle = λ i. absurd (busy i);
       }
 
-  pub passing_full : RunsOut t u a b limit → ReachesLimit s.store u.store limit b
+  pub passing_full : RunsOut t u a b limit → ReachesLimit s u limit b
   passing_full h =
       let same = ap (λ (z : List (Option Stored)). length (firm z)) h.store in
       let m : ℕ = length (firm s.store) in
       let n : ℕ = lits_sum s.store in
-      let g : ℕ = m - length (firm t.store) in
-      let is : m - length (firm u.store) ≡ g = omega arith in
-      let x : b < (n + 1) * (m + 1) * (g + 1) = within_full m n g (length (firm t.store)) (marked_sum t) a b p.spent p.fewer h.spent in
+      let g : ℕ = gone s t in
+      let is : gone s u ≡ g = omega arith in
+      let w : b < (marked_sum s + n * g) * (m + 1) = within_full m n (marked_sum s) g (length (firm t.store)) (marked_sum t) a b p.spent p.fewer h.spent in
+      let x : b < (n + 1) * (m + 1) * (g + 1) = full_below m n (marked_sum s) g b (sum_le_lits (has s.marked.lits) s.store) w in
       let y : b < (n + 1) * (m + 1) * (m + 1) = product_below b ((n + 1) * (m + 1)) g m x (omega arith) in
       record {
         full = h.full;
+        spent = rw is w;
         parked = rw is (quotient_below b ((n + 1) * (m + 1)) g (product_positive n m) x);
         below = let e = h.full in rw (← e) y;
       }

@@ -13,8 +13,8 @@ use Rattle.pass_terms.specs.Ruled.{Uses, Ruled}
 use Rattle.pass_terms.specs.Ruled.Uses.{parked, unmarked}
 use Rattle.pass_terms.specs.Ruled.Ruled.{none, more}
 use Rattle.blocked_clauses.specs.Seeking.{occurrences, most_steps}
-use Rattle.blocked_clauses.specs.Passing.{passing_sum, AllFrozen}
-use Rattle.blocked_clauses.specs.Walking.{IsSettled, IsParked, IsFull, marked_sum, FrozenBetween, Unmarks, GoesThrough, ParksOne, RunsOut}
+use Rattle.blocked_clauses.specs.Passing.{passing_sum, marked_sum, AllFrozen}
+use Rattle.blocked_clauses.specs.Walking.{IsSettled, IsParked, IsFull, FrozenBetween, Unmarks, GoesThrough, ParksOne, RunsOut}
 use Rattle.blocked_clauses.proofs.Weighing.{sum_less, occurs_le_sum, occurs_le_firm, firm_freed, lits_freed}
 use Rattle.blocked_clauses.proofs.Counting.{spent_settled, spent_parked, spent_full}
 

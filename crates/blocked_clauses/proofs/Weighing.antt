@@ -3,15 +3,13 @@ use Rattle.std.proofs.Common.{◌≡◌, ℕ, suc, zero, ◌+◌, ◌*◌, ◌<�
 use Rattle.std.proofs.lemmas.Bool.{cases_Bool, cases_eq, false≢true, and_parts, eqb-true, eq-eqb}
 use Rattle.std.proofs.lemmas.List.Sums.{sum_by-cons, count_by-le-length}
 use Rattle.sat_terms.specs.Literal.{has}
-use Rattle.clause_store.specs.Stored.{Stored, keeps_firm, slot, is_firm, Frees}
+use Rattle.clause_store.specs.Stored.{Stored, keeps_firm, slot, slot_lits, is_firm, Frees}
 use Rattle.clause_store.specs.FirmCount.{firm_passes, firm_count}
-use Rattle.clause_store.proofs.FirmCounts.{removing_counts}
 use Rattle.firm_terms.specs.Firm.{firm, firm_size, lits_sum}
+use Rattle.firm_terms.proofs.Counting.{one_if, count_firm, count_freed, count_le}
+use Rattle.firm_terms.proofs.Summing.{sum_freed}
 use Rattle.blocked_clauses.specs.Seeking.{occurrences}
 use Rattle.blocked_clauses.specs.Passing.{passing_size, passing_sum}
-
-abbrev one_if : Bool → ℕ
-one_if b = cond b 1 0
 
 -- a test that fewer literals pass
 passing_le : (p q : ℕ → Bool) (c : List ℕ) → ((x : ℕ) → p x ≡ true → q x ≡ true) → count_by p c ≤ count_by q c
@@ -88,60 +86,20 @@ sum_le_lits p (Some c ∷ s) =
       | inr k ↦ (let e : passing_size p (Some c) ≡ 0 = rw k refl in let f : firm_size (Some c) ≡ 0 = rw k refl in omega (arith, r, e, f))
     ]
 
--- the number of firm clauses
-pub count_firm : (s : List (Option Stored)) → firm_count (λ c. true) s ≡ length (firm s)
-count_firm [] = refl
-count_firm (None ∷ s) = let a = count_cons (firm_passes (λ c. true)) None s in let r = count_firm s in omega (arith, a, r)
-count_firm (Some c ∷ s) =
-    let a = count_cons (firm_passes (λ d. true)) (Some c) s in
-    let r = count_firm s in
-    elim (cases_Bool (keeps_firm c.keep)) [
-      | inl k ↦
-          (let g : one_if (firm_passes (λ d. true) (Some c)) ≡ 1 = rw k refl in
-          let e : length (firm (Some c ∷ s)) ≡ suc (length (firm s)) = rw k refl in
-          omega (arith, a, r, g, e))
-      | inr k ↦
-          (let g : one_if (firm_passes (λ d. true) (Some c)) ≡ 0 = rw k refl in
-          let e : length (firm (Some c ∷ s)) ≡ length (firm s) = rw k refl in
-          omega (arith, a, r, g, e))
-    ]
-
-passes_le : (l : ℕ) (s : List (Option Stored)) → occurrences s l ≤ firm_count (λ c. true) s
-passes_le l [] = omega arith
-passes_le l (x ∷ s) =
-    let r = passes_le l s in
-    let a = count_cons (firm_passes (λ c. has c l)) x s in
-    let b = count_cons (firm_passes (λ c. true)) x s in
-    omega (arith, r, a, b, each x) where
-      each : (x : Option Stored) → one_if (firm_passes (λ c. has c l) x) ≤ one_if (firm_passes (λ c. true) x)
-      each None = omega arith
-      each (Some c) = go (keeps_firm c.keep) (has c.lits l) where
-        go : (a b : Bool) → one_if (a && b) ≤ one_if (a && true)
-        go true true = omega arith
-        go true false = omega arith
-        go false b = omega arith
-
 pub occurs_le_firm : (s : List (Option Stored)) (l : ℕ) → occurrences s l ≤ length (firm s)
-occurs_le_firm s l = let a = passes_le l s in let b = count_firm s in omega arith
+occurs_le_firm s l =
+    let a = count_le (firm_passes (λ c. has c l)) is_firm s (λ x h. (and_parts (is_firm x) (has (slot_lits x) l) h).0) in
+    let b = count_firm s in
+    omega arith
 
 -- a store with one firm clause less
 pub firm_freed : (s t : List (Option Stored)) (id : ℕ) → is_firm (slot s id) ≡ true → Frees s t id → length (firm s) ≡ length (firm t) + 1
 firm_freed s t id h frees =
     let a = count_firm s in
     let b = count_firm t in
-    let c = removing_counts (λ c. true) s t id frees in
-    let d : one_if (firm_passes (λ c. true) (slot s id)) ≡ 1 = rw h refl in
+    let c = count_freed is_firm s t id refl frees in
+    let d : one_if (is_firm (slot s id)) ≡ 1 = rw h refl in
     omega (arith, a, b, c, d)
 
-sizes_le : (s t : List (Option Stored)) → ((k : ℕ) → firm_size (slot t k) ≤ firm_size (slot s k)) → lits_sum t ≤ lits_sum s
-sizes_le s [] h = omega arith
-sizes_le [] (y ∷ t) h = let a = h 0 in let r = sizes_le [] t (λ k. h (suc k)) in omega arith
-sizes_le (x ∷ s) (y ∷ t) h = let a = h 0 in let r = sizes_le s t (λ k. h (suc k)) in omega arith
-
 pub lits_freed : (s t : List (Option Stored)) (id : ℕ) → Frees s t id → lits_sum t ≤ lits_sum s
-lits_freed s t id frees =
-    sizes_le s t (λ k.
-    elim (cases_eq k id) [
-      | inl e ↦ (let z = ap firm_size (ap (slot t) e ∙ frees.freed) in omega arith)
-      | inr n ↦ (let z = ap firm_size (frees.others k n) in omega arith)
-    ])
+lits_freed s t id frees = let e = sum_freed s t id frees in omega arith

@@ -4,6 +4,7 @@ use Rattle.sat_terms.specs.Literal.{has, var_of}
 use Rattle.clause_store.specs.Stored.{Stored, keeps_firm}
 use Rattle.firm_terms.specs.Firm.{firm, lits_sum}
 use Rattle.firm_terms.specs.Resolving.{BlocksNone}
+use Rattle.rule_kernel.specs.State.{State}
 use Rattle.rule_kernel.specs.declared.report.Ended.{Ended}
 use Rattle.rule_kernel.specs.declared.report.Ended.TheVariants.{Fixpoint, Limit}
 use Rattle.rule_kernel.specs.declared.report.PassReport.{PassReport}
@@ -17,24 +18,33 @@ abbrev pub passing_sum : (ℕ → Bool) → List (Option Stored) → ℕ
 passing_sum test [] = 0
 passing_sum test (x ∷ s) = passing_size test x + passing_sum test s
 
--- With L the sum of the lengths of the firm clauses and M their number, this is (L + 1) (M + 1): no more steps pass between two clauses
--- that are parked.
-abbrev pub most_between : List (Option Stored) → ℕ
-most_between s = (lits_sum s + 1) * (length (firm s) + 1)
+-- how many literals of firm clauses are marked, each as often as it stands
+abbrev pub marked_sum : State → ℕ
+marked_sum s = passing_sum (has s.marked.lits) s.store
 
 -- no firm clause is blocked on a literal whose variable is not frozen
 abbrev pub NoneBlocked : (ℕ → Bool) → List (Option Stored) → Type 0
 NoneBlocked frozen s = (l : ℕ) → frozen (var_of l) ≡ false → BlocksNone s l
 
--- The pass stopped at its limit, after b steps.
-pub record ReachesLimit (s t : List (Option Stored)) (limit b : ℕ) : Type 0 where
+-- how many firm clauses fewer there are
+abbrev pub gone : State → State → ℕ
+gone s t = length (firm s.store) - length (firm t.store)
+
+-- With L the sum of the lengths of the firm clauses and M their number, this is (L + 1) (M + 1).
+abbrev pub most_between : State → ℕ
+most_between s = (lits_sum s.store + 1) * (length (firm s.store) + 1)
+
+-- The pass stopped at its limit, after b steps: these were for the literals that were marked, and for those that the clauses marked that were
+-- parked. At least b divided by (L + 1) (M + 1) were parked, and the limit is below (L + 1) (M + 1) (M + 1).
+pub record ReachesLimit (s t : State) (limit b : ℕ) : Type 0 where
   pub full : b ≡ limit
-  pub parked : b / most_between s ≤ length (firm s) - length (firm t)
-  pub below : limit < most_between s * (length (firm s) + 1)
+  pub spent : b < (marked_sum s + lits_sum s.store * gone s t) * (length (firm s.store) + 1)
+  pub parked : b / most_between s ≤ gone s t
+  pub below : limit < most_between s * (length (firm s.store) + 1)
 
 -- how the pass ended
-abbrev pub Ends : (ℕ → Bool) → List (Option Stored) → List (Option Stored) → ℕ → Ended → Type 0
-Ends frozen s t limit Fixpoint = NoneBlocked frozen t
+abbrev pub Ends : (ℕ → Bool) → State → State → ℕ → Ended → Type 0
+Ends frozen s t limit Fixpoint = NoneBlocked frozen t.store
 Ends frozen s t limit (Limit b) = ReachesLimit s t limit b
 
 -- all of some literals are those of frozen variables

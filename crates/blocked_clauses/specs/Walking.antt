@@ -6,7 +6,7 @@ use Rattle.firm_terms.specs.Firm.{firm, lits_sum}
 use Rattle.rule_kernel.specs.State.{State}
 use Rattle.rule_kernel.specs.Rules.{SameButMarks, Parks}
 use Rattle.blocked_clauses.specs.Seeking.{Counts, ComesFull, occurrences, most_steps}
-use Rattle.blocked_clauses.specs.Passing.{passing_sum}
+use Rattle.blocked_clauses.specs.Passing.{marked_sum}
 use Rattle.blocked_clauses.specs.declared.walk.Turn.{Turn}
 use Rattle.blocked_clauses.specs.declared.walk.Turn.TheVariants.{Settled, Parked, Full}
 use Rattle.blocked_clauses.specs.declared.walk.Walk.{Walk}
@@ -33,10 +33,6 @@ abbrev pub Turned : State → State → ℕ → ℕ → ℕ → ℕ → Turn →
 Turned s t l a b limit Settled = IsSettled s t l a b limit
 Turned s t l a b limit Parked = IsParked s t l a b limit
 Turned s t l a b limit Full = IsFull s t l a b limit
-
--- how many literals of firm clauses are marked, each as often as it stands
-abbrev pub marked_sum : State → ℕ
-marked_sum s = passing_sum (has s.marked.lits) s.store
 
 -- the marked literals from one place on up to another are those of frozen variables
 abbrev pub FrozenBetween : (ℕ → Bool) → State → ℕ → ℕ → Type 0

@@ -32,7 +32,7 @@ use sat_model::memory::Memory;
 // Walks over the marked literals, until a walk over all of them parks nothing, or the steps reach the limit.
 fn walks(kernel: &mut Kernel, frozen: &Frozen, limit: u64) -> Result<Ended, Memory>
     ensures ruled { Ruled (is_frozen frozen.now) kernel.old kernel.new }
-    ensures ended { IfOk result (λ ended. Ends (is_frozen frozen.now) kernel.old.store kernel.new.store limit ended) }
+    ensures ended { IfOk result (λ ended. Ends (is_frozen frozen.now) kernel.old kernel.new limit ended) }
     ensures idle { AllFrozen (is_frozen frozen.now) kernel.old.marked.lits → (kernel.new ≡ kernel.old) × (result ≡ Ok Fixpoint) }
 {
     let mut steps = 0;
@@ -66,7 +66,7 @@ fn walks(kernel: &mut Kernel, frozen: &Frozen, limit: u64) -> Result<Ended, Memo
 pub fn run(kernel: &mut Kernel, frozen: &Frozen, limit: u64) -> Result<PassReport, Memory>
     ensures ruled { Ruled (is_frozen frozen.now) kernel.old kernel.new }
     ensures removed { IfOk result (λ report. report.removed ≡ kernel.new.removals - kernel.old.removals) }
-    ensures ended { IfOk result (λ report. Ends (is_frozen frozen.now) kernel.old.store kernel.new.store limit report.ended) }
+    ensures ended { IfOk result (λ report. Ends (is_frozen frozen.now) kernel.old kernel.new limit report.ended) }
     ensures idle { AllFrozen (is_frozen frozen.now) kernel.old.marked.lits → (kernel.new ≡ kernel.old) × (result ≡ Ok nothing_done) }
 {
     let removals = kernel.removals();
