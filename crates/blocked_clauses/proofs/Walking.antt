@@ -83,10 +83,10 @@ module _ (frozen : ℕ → Bool) (s t : State) (from place a b limit l : ℕ) (w
       walking_settled h =
           let swap : u.marked.lits ≡ swap_remove t.marked.lits place l = h.place place in' (sym read) in
           let less : passing_sum (has u.marked.lits) t.store + occurrences t.store l ≤ marked_sum t =
-            sum_less (has u.marked.lits) (has t.marked.lits) t.store l
-            (λ x i. (and_parts (has t.marked.lits x) (not (eqb l x)) (sym (h.lits x) ∙ i)).0)
-            (h.lits l ∙ and_right (has t.marked.lits l) (not (eqb l l)) (ap not (eq-eqb l l refl)))
-            marked in
+          sum_less (has u.marked.lits) (has t.marked.lits) t.store l
+          (λ x i. (and_parts (has t.marked.lits x) (not (eqb l x)) (sym (h.lits x) ∙ i)).0)
+          (h.lits l ∙ and_right (has t.marked.lits l) (not (eqb l l)) (ap not (eq-eqb l l refl)))
+          marked in
           let sum : marked_sum u ≡ passing_sum (has u.marked.lits) t.store = ap (passing_sum (has u.marked.lits)) h.rest.store in
           let spent = spent_settled (length (firm s.store)) (marked_sum t) (marked_sum u) (occurrences t.store l) (occurrences t.store (neg l)) b b' (omega arith) few_negs h.steps.few in
           let before = w.unmarks.spent in
@@ -111,16 +111,18 @@ module _ (frozen : ℕ → Bool) (s t : State) (from place a b limit l : ℕ) (w
           let less = firm_freed t.store u.store h.id h.parks.firm h.parks.store in
           let lits = lits_freed t.store u.store h.id h.parks.store in
           let same = ap (λ (z : List (Option Stored)). length (firm z)) w.unmarks.store in
-          let sum = ap lits_sum w.unmarks.store in
-          (more t u w.ruled (parked h.id l free h.parks),
-          record { fewer = omega arith; shorter = omega arith; spent = omega arith; rest = h.steps.rest })
+          let sum = ap lits_sum w.unmarks.store in (
+            more t u w.ruled (parked h.id l free h.parks),
+            record { fewer = omega arith; shorter = omega arith; spent = omega arith; rest = h.steps.rest },
+          )
 
       pub walking_full : IsFull t u l b b' limit → Ruled frozen s u × RunsOut s u a b' limit
       walking_full h =
           let x = spent_full (length (firm s.store)) (marked_sum t) (occurrences t.store l) (occurrences t.store (neg l)) b b' (occurs_le_sum (has t.marked.lits) t.store l marked) few_negs h.steps.before in
-          let before = w.unmarks.spent in
-          (rw h.same w.ruled,
-          record { store = ap (λ (z : State). z.store) h.same ∙ w.unmarks.store; full = h.steps.full; spent = omega arith })
+          let before = w.unmarks.spent in (
+            rw h.same w.ruled,
+            record { store = ap (λ (z : State). z.store) h.same ∙ w.unmarks.store; full = h.steps.full; spent = omega arith },
+          )
 
 -- the end of the list
 pub walking_through : (frozen : ℕ → Bool) (s t : State) (from place a b limit : ℕ) → Walking frozen s t from place a b limit → length t.marked.lits ≤ place → GoesThrough frozen s t from a b limit

@@ -8,4 +8,6 @@
 mod clash;
 pub mod pass;
 mod seek;
+#[cfg(test)]
+mod tests;
 mod walk;

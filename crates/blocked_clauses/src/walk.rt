@@ -61,7 +61,13 @@ fn try_lit(kernel: &mut Kernel, lit: Lit, steps: &mut u64, limit: u64) -> Result
 }
 
 /// Takes the marked literals from a place on, up to the first clause that is parked.
-pub(crate) fn walk_from(kernel: &mut Kernel, frozen: &Frozen, from: usize, steps: &mut u64, limit: u64) -> Result<Walk, Memory>
+pub(crate) fn walk_from(
+    kernel: &mut Kernel,
+    frozen: &Frozen,
+    from: usize,
+    steps: &mut u64,
+    limit: u64,
+) -> Result<Walk, Memory>
     requires { steps.old ≤ limit }
     ensures ruled { Ruled (is_frozen frozen.now) kernel.old kernel.new }
     ensures walked { IfOk result (λ walk. Walked (is_frozen frozen.now) kernel.old kernel.new from steps.old steps.new limit walk) }
