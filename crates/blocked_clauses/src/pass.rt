@@ -42,7 +42,8 @@ fn walks(kernel: &mut Kernel, frozen: &Frozen, limit: u64) -> Result<Ended, Memo
             Walk::Parked(place) => from = place,
             Walk::Full => return Ok(Ended::Limit(steps)),
             Walk::Through => {
-                if from == 0 {
+                let from_front = from == 0;
+                if from_front {
                     kernel.law_promises();
                     return Ok(Ended::Fixpoint);
                 }

@@ -3,7 +3,7 @@
 //! Each clause with the literal is tested against the clauses with its negation, one after the other, up to the first resolvent that is no
 //! tautology. So a clause that is not blocked is mostly done with after one or two of them. Each test of two clauses is a step; a clause
 //! for which there is none to test it against is blocked, and counts as one step.
-ghost use Rattle.std.specs.Prelude.{◌≡◌, ◌≤◌, length};
+ghost use Rattle.std.specs.Prelude.{◌≡◌, ◌≤◌, ◌+◌, true, false, length};
 ghost use Rattle.sat_terms.specs.Literal.{neg as opposite};
 ghost use Rattle.clause_store.specs.Stored.{slot, slot_lits};
 ghost use Rattle.clause_store.specs.Listing.{HasEachOnce, holds_at};
@@ -35,33 +35,37 @@ pub(crate) enum Found {
     Full,
 }
 
+// Counts a step, if the limit leaves one, and answers whether it does.
+fn count(steps: &mut u64, limit: u64) -> bool
+    requires { steps.old ≤ limit }
+    ensures counted { result ≡ true → (steps.new ≡ steps.old + 1) × (steps.new ≤ limit) }
+    ensures full { result ≡ false → (steps.new ≡ steps.old) × (steps.old ≡ limit) }
+{
+    if *steps >= limit {
+        return false;
+    }
+    *steps += 1;
+    true
+}
+
 // Whether a firm clause is blocked on a literal that it holds. The others are the firm clauses with the literal's negation.
-fn ask(
-    store: &Store,
-    lit: Lit,
-    id: ClauseId,
-    others: &[ClauseId],
-    steps: &mut u64,
-    limit: u64,
-) -> Answer
+fn ask(store: &Store, lit: Lit, id: ClauseId, others: &[ClauseId], steps: &mut u64, limit: u64) -> Answer
     requires holds { Holds store.now id lit }
     requires others { HasEachOnce (holds_at store.now (opposite lit)) others.now }
     requires rest { steps.old ≤ limit }
     ensures { Asked store.now id lit (length others.now) steps.old steps.new limit result }
 {
-    if *steps == limit {
-        return Answer::Full;
-    }
-    let clause = store.get(id);
     if others.len() == 0 {
-        *steps += 1;
-        return Answer::Blocked;
-    }
-    for other in others {
-        if *steps == limit {
+        if !count(steps, limit) {
             return Answer::Full;
         }
-        *steps += 1;
+        return Answer::Blocked;
+    }
+    let clause = store.get(id);
+    for other in others {
+        if !count(steps, limit) {
+            return Answer::Full;
+        }
         if !clash(lit, clause, store.get(*other)) {
             return Answer::Open;
         }

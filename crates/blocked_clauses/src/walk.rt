@@ -7,6 +7,7 @@
 //!
 //! A literal whose variable is frozen keeps its mark and is passed over, so that it is tried once the variable is frozen no longer.
 ghost use Rattle.std.specs.Prelude.{◌≡◌, ◌≤◌, Ok, IfOk, OnErr};
+ghost use Rattle.sat_terms.specs.Literal.{var_of};
 ghost use Rattle.rule_kernel.specs.Frozen.{is_frozen};
 ghost use Rattle.pass_terms.specs.Ruled.{Ruled};
 ghost use Rattle.blocked_clauses.specs.Passing.{AllFrozen};
@@ -60,6 +61,13 @@ fn try_lit(kernel: &mut Kernel, lit: Lit, steps: &mut u64, limit: u64) -> Result
     }
 }
 
+// Whether the walk leaves a literal as it is: its variable is frozen.
+fn is_passed_over(frozen: &Frozen, lit: Lit) -> bool
+    ensures { result ≡ is_frozen frozen.now (var_of lit) }
+{
+    frozen.has(lit.var())
+}
+
 /// Takes the marked literals from a place on, up to the first clause that is parked.
 pub(crate) fn walk_from(
     kernel: &mut Kernel,
@@ -76,7 +84,7 @@ pub(crate) fn walk_from(
     let mut place = from;
     while place < kernel.marked_lits().len() {
         let lit = kernel.marked_lits()[place];
-        if frozen.has(lit.var()) {
+        if is_passed_over(frozen, lit) {
             place += 1;
             continue;
         }

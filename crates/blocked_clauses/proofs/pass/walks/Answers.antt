@@ -1,5 +1,4 @@
 use Rattle.std.proofs.Common.{◌≡◌, ap, subst}
-use Rattle.rule_kernel.specs.State.{State}
 use Rattle.rule_kernel.specs.Frozen.{is_frozen}
 use Rattle.pass_terms.proofs.Ruling.{ruled_trans}
 use Rattle.blocked_clauses.specs.Passing.{AllFrozen}
@@ -32,17 +31,17 @@ returns-in-Full-clause-ended c =
     passing_full (is_frozen c.args.frozen.now) c.args.kernel.now c.walks.kernel c.walk_from.new.kernel c.walks.from c.walks.steps c.walk_from.new.steps c.args.limit c.walks.invariant
     (rw c.in-Full.is at c.in_ok-place.ensures.walked)
 
-pub returns-then-from-eq0-clause-ruled : goal.returns-then-from-eq0-clause-ruled
-returns-then-from-eq0-clause-ruled c =
+pub returns-then-from_front-clause-ruled : goal.returns-then-from_front-clause-ruled
+returns-then-from_front-clause-ruled c =
     ruled_trans (is_frozen c.args.frozen.now) c.args.kernel.now c.walks.kernel c.walk_from.new.kernel c.walks.invariant.ruled c.walk_from.ensures.ruled
 
-pub returns-then-from-eq0-clause-ended : goal.returns-then-from-eq0-clause-ended
-returns-then-from-eq0-clause-ended c =
+pub returns-then-from_front-clause-ended : goal.returns-then-from_front-clause-ended
+returns-then-from_front-clause-ended c =
     passing_end (is_frozen c.args.frozen.now) c.walks.kernel c.walk_from.new.kernel c.walks.steps c.walk_from.new.steps c.args.limit c.law_promises.ensures
-    (rw (c.in-Through.is, c.if-from-eq0.true) at c.in_ok-place.ensures.walked)
+    (rw (c.in-Through.is, c.if-from_front.true) at c.in_ok-place.ensures.walked)
 
 pub walks-preserved : goal.walks-preserved
 walks-preserved c =
     passing_through (is_frozen c.args.frozen.now) c.args.kernel.now c.walks.kernel c.walk_from.new.kernel c.walks.from c.walks.steps c.walk_from.new.steps c.args.limit c.walks.invariant
-    (λ h. c.if-from-eq0.false (c.walks.invariant.idle h).1)
+    (λ h. c.if-from_front.false (c.walks.invariant.idle h).1)
     c.walk_from.ensures.ruled (rw c.in-Through.is at c.in_ok-place.ensures.walked)
