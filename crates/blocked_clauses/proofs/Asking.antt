@@ -1,16 +1,16 @@
 -- Laws of the search for a clause that is blocked on a literal.
-use Rattle.std.proofs.Common.{◌≡◌, ◌≢◌, ℕ, suc, zero, ◌+◌, ◌*◌, ◌<◌, ◌≤◌, Bool, true, false, max, List, [], ◌∷◌, length, get_or, Option, Some, None, IsSome, ◌⊎◌, inl, inr, refl, sym, ap, ◌∙◌, subst, arith}
-use Rattle.std.proofs.lemmas.Bool.{cases_Bool, cases_eq, cases_lt, false≢true, and_parts, and_from}
+use Rattle.std.proofs.Common.{◌≡◌, ◌≢◌, ℕ, ◌+◌, ◌*◌, ◌<◌, ◌≤◌, true, false, max, List, length, get_or, Option, inl, inr, sym, ap, ◌∙◌, subst, arith}
+use Rattle.std.proofs.lemmas.Bool.{cases_eq, false≢true, and_parts, and_from}
 use Rattle.std.proofs.lemmas.List.{get_or_default}
 use Rattle.std.proofs.Math.Nat.{mul-le-mul_left}
 use Rattle.sat_terms.specs.Literal.{has, neg}
 use Rattle.clause_store.specs.Stored.{Stored, slot, slot_lits, is_firm}
-use Rattle.clause_store.specs.Listing.{times, HasEachOnce, holds_at}
+use Rattle.clause_store.specs.Listing.{HasEachOnce, holds_at}
 use Rattle.clause_store.proofs.FirmCounts.{lists_count}
 use Rattle.firm_terms.specs.Firm.{Holds}
 use Rattle.firm_terms.proofs.Counting.{listed, place_of}
-use Rattle.firm_terms.specs.Resolving.{resolvent, is_tautology, IsBlocked, BlocksNone}
-use Rattle.blocked_clauses.specs.Seeking.{Counts, ComesFull, IsAll, IsOpen, IsFound, IsNone, occurrences, most_steps}
+use Rattle.firm_terms.specs.Resolving.{resolvent, is_tautology, IsBlocked}
+use Rattle.blocked_clauses.specs.Seeking.{ComesFull, IsAll, IsOpen, IsFound, IsNone, occurrences, most_steps}
 
 -- the ids of the clauses with a literal
 pub listed_holds : (s : List (Option Stored)) (l : ℕ) (ids : List ℕ) (k : ℕ) → HasEachOnce (holds_at s l) ids → k < length ids → Holds s (get_or ids k 0) l

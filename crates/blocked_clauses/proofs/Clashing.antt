@@ -1,11 +1,11 @@
 -- Laws of the walk over two clauses at once.
-use Rattle.std.proofs.Common.{◌≡◌, ◌≢◌, ℕ, suc, ◌+◌, ◌/◌, ◌<◌, ◌≤◌, Bool, true, false, not, eqb, List, length, get_or, ◌⊎◌, inl, inr, refl, sym, ap, ◌∙◌, arith, nat_cmp, Less, Equal, Greater}
+use Rattle.std.proofs.Common.{◌≡◌, ◌≢◌, ℕ, ◌+◌, ◌<◌, ◌≤◌, true, false, not, eqb, List, length, get_or, ◌⊎◌, inl, inr, sym, ap, ◌∙◌, arith, nat_cmp, Less, Equal, Greater}
 use Rattle.std.proofs.lemmas.Bool.Decides.{nat_tests}
 use Rattle.std.proofs.lemmas.List.{get_or_default}
 use Rattle.std.proofs.lemmas.Bool.{cases_eq, cases_lt, false_from_ne_true, false≢true, eq-eqb, ne_eqb}
-use Rattle.sat_terms.specs.Literal.{has, neg, var_of}
+use Rattle.sat_terms.specs.Literal.{neg, var_of}
 use Rattle.sat_terms.specs.Normal.{IsNormal}
-use Rattle.sat_terms.proofs.Literals.{neg-neg, neg-other, var_of-neg, same_var}
+use Rattle.sat_terms.proofs.Literals.{neg-other, var_of-neg, same_var}
 use Rattle.sat_terms.proofs.Members.{has_place, has_item}
 use Rattle.firm_terms.specs.Resolving.{resolvent, is_tautology}
 use Rattle.firm_terms.proofs.Resolving.{clashes, clash_of, clash_from, clash_tautology, clash_is}

@@ -1,5 +1,5 @@
 -- Laws of walks, one after another.
-use Rattle.std.proofs.Common.{◌≡◌, ℕ, ◌+◌, ◌-◌, ◌*◌, ◌<◌, ◌≤◌, Bool, true, false, List, length, get_or, Option, Result, Ok, Err, inl, inr, refl, sym, ap, ◌∙◌, arith}
+use Rattle.std.proofs.Common.{◌≡◌, ℕ, ◌+◌, ◌*◌, ◌<◌, ◌≤◌, Bool, true, false, List, length, Option, Result, Ok, Err, inl, inr, refl, sym, ap, ◌∙◌, arith}
 use Rattle.std.proofs.lemmas.Bool.{cases_Bool, false≢true}
 use Rattle.sat_terms.specs.Literal.{has, var_of}
 use Rattle.sat_terms.proofs.Members.{has_place}
@@ -9,7 +9,7 @@ use Rattle.rule_kernel.specs.State.{State, IsPromised}
 use Rattle.pass_terms.specs.Ruled.{Ruled}
 use Rattle.pass_terms.specs.Ruled.Ruled.{none}
 use Rattle.pass_terms.proofs.Ruling.{ruled_trans}
-use Rattle.blocked_clauses.specs.Passing.{passing_sum, marked_sum, gone, most_between, NoneBlocked, ReachesLimit, AllFrozen}
+use Rattle.blocked_clauses.specs.Passing.{marked_sum, gone, NoneBlocked, ReachesLimit, AllFrozen}
 use Rattle.blocked_clauses.specs.Walking.{GoesThrough, ParksOne, RunsOut}
 use Rattle.sat_model.specs.declared.memory.Memory.{Memory}
 use Rattle.blocked_clauses.specs.declared.walk.Walk.{Walk}

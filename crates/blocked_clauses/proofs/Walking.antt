@@ -1,5 +1,5 @@
 -- Laws of a walk over the marked literals.
-use Rattle.std.proofs.Common.{◌≡◌, ◌≢◌, ℕ, ◌+◌, ◌-◌, ◌*◌, ◌<◌, ◌≤◌, Bool, true, false, not, eqb, ◌&&◌, max, List, [], ◌∷◌, length, get_or, set, take, Option, inl, inr, refl, sym, ap, ◌∙◌, subst, arith}
+use Rattle.std.proofs.Common.{◌≡◌, ℕ, ◌+◌, ◌-◌, ◌<◌, ◌≤◌, Bool, true, false, not, eqb, List, length, get_or, set, Option, inl, inr, refl, sym, ap, ◌∙◌, subst, arith}
 use Rattle.std.specs.List.{swap_remove}
 use Rattle.std.proofs.lemmas.Bool.{cases_eq, false≢true, and_parts, and_right, eq-eqb}
 use Rattle.std.proofs.lemmas.List.{get_or-take, get_or-set_other, length-take-le, length-set, get_or_default}
@@ -8,11 +8,10 @@ use Rattle.sat_terms.proofs.Members.{has_at}
 use Rattle.clause_store.specs.Stored.{Stored}
 use Rattle.firm_terms.specs.Firm.{firm, lits_sum}
 use Rattle.rule_kernel.specs.State.{State}
-use Rattle.rule_kernel.specs.Rules.{SameButMarks, Parks}
-use Rattle.pass_terms.specs.Ruled.{Uses, Ruled}
+use Rattle.pass_terms.specs.Ruled.{Ruled}
 use Rattle.pass_terms.specs.Ruled.Uses.{parked, unmarked}
 use Rattle.pass_terms.specs.Ruled.Ruled.{none, more}
-use Rattle.blocked_clauses.specs.Seeking.{occurrences, most_steps}
+use Rattle.blocked_clauses.specs.Seeking.{occurrences}
 use Rattle.blocked_clauses.specs.Passing.{passing_sum, marked_sum, AllFrozen}
 use Rattle.blocked_clauses.specs.Walking.{IsSettled, IsParked, IsFull, FrozenBetween, Unmarks, GoesThrough, ParksOne, RunsOut}
 use Rattle.blocked_clauses.proofs.Weighing.{sum_less, occurs_le_sum, occurs_le_firm, firm_freed, lits_freed}

@@ -1,10 +1,10 @@
 -- Laws of how many literals of the firm clauses pass a test.
-use Rattle.std.proofs.Common.{◌≡◌, ℕ, suc, zero, ◌+◌, ◌*◌, ◌<◌, ◌≤◌, Bool, true, false, cond, not, eqb, ◌&&◌, List, [], ◌∷◌, length, max, count_by, Option, Some, None, inl, inr, refl, sym, ap, ◌∙◌, arith}
-use Rattle.std.proofs.lemmas.Bool.{cases_Bool, cases_eq, false≢true, and_parts, eqb-true, eq-eqb}
+use Rattle.std.proofs.Common.{◌≡◌, ℕ, ◌+◌, ◌≤◌, Bool, true, false, cond, eqb, List, [], ◌∷◌, length, count_by, Option, Some, None, inl, inr, refl, arith}
+use Rattle.std.proofs.lemmas.Bool.{cases_Bool, false≢true, and_parts, eqb-true}
 use Rattle.std.proofs.lemmas.List.Sums.{sum_by-cons, count_by-le-length}
 use Rattle.sat_terms.specs.Literal.{has}
 use Rattle.clause_store.specs.Stored.{Stored, keeps_firm, slot, slot_lits, is_firm, Frees}
-use Rattle.clause_store.specs.FirmCount.{firm_passes, firm_count}
+use Rattle.clause_store.specs.FirmCount.{firm_passes}
 use Rattle.firm_terms.specs.Firm.{firm, firm_size, lits_sum}
 use Rattle.firm_terms.proofs.Counting.{one_if, count_firm, count_freed, count_le}
 use Rattle.firm_terms.proofs.Summing.{sum_freed}

@@ -1,5 +1,5 @@
 -- One walk over the marked literals.
-use Rattle.std.specs.Prelude.{◌≡◌, ℕ, ◌+◌, ◌*◌, ◌<◌, ◌≤◌, ◌==◌, ◌&&◌, Bool, true, not, List, [], ◌∷◌, length, slice_index_or}
+use Rattle.std.specs.Prelude.{◌≡◌, ℕ, ◌+◌, ◌*◌, ◌<◌, ◌≤◌, ◌==◌, ◌&&◌, Bool, true, not, [], ◌∷◌, length, slice_index_or}
 use Rattle.std.specs.List.{swap_remove}
 use Rattle.sat_terms.specs.Literal.{has, var_of}
 use Rattle.firm_terms.specs.Firm.{firm, lits_sum}

@@ -49,7 +49,14 @@ fn count(steps: &mut u64, limit: u64) -> bool
 }
 
 // Whether a firm clause is blocked on a literal that it holds. The others are the firm clauses with the literal's negation.
-fn ask(store: &Store, lit: Lit, id: ClauseId, others: &[ClauseId], steps: &mut u64, limit: u64) -> Answer
+fn ask(
+    store: &Store,
+    lit: Lit,
+    id: ClauseId,
+    others: &[ClauseId],
+    steps: &mut u64,
+    limit: u64,
+) -> Answer
     requires holds { Holds store.now id lit }
     requires others { HasEachOnce (holds_at store.now (opposite lit)) others.now }
     requires rest { steps.old ≤ limit }

@@ -1,4 +1,4 @@
-use Rattle.std.proofs.Common.{◌≡◌, ◌<◌, ◌≤◌, length, sym, ◌∙◌, inl, inr, arith}
+use Rattle.std.proofs.Common.{sym, inl, inr, arith}
 use Rattle.blocked_clauses.proofs.Clashing.{clear_start, read_less, read_greater, read_same, read_found, clear_end, differs, same_or}
 use Rattle.blocked_clauses.proofs.clash.clash.Goals.{else-ne-via-then-ne+else-ne-2, else-ne-via-else-ne}
 use Rattle.blocked_clauses.proofs.clash.clash.Goals as goal

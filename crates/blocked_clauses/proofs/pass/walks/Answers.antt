@@ -1,7 +1,6 @@
-use Rattle.std.proofs.Common.{◌≡◌, ap, subst}
+use Rattle.std.proofs.Common.{◌≡◌}
 use Rattle.rule_kernel.specs.Frozen.{is_frozen}
 use Rattle.pass_terms.proofs.Ruling.{ruled_trans}
-use Rattle.blocked_clauses.specs.Passing.{AllFrozen}
 use Rattle.blocked_clauses.proofs.Passing.{not_through, passing_start, passing_through, passing_parked, passing_full, passing_end}
 use Rattle.blocked_clauses.proofs.pass.walks.Goals as goal
 

@@ -1,4 +1,4 @@
-use Rattle.std.proofs.Common.{◌≡◌, ◌≢◌, ◌≤◌, length, arith}
+use Rattle.std.proofs.Common.{◌≢◌, length, arith}
 use Rattle.blocked_clauses.proofs.Asking.{asked_all}
 use Rattle.blocked_clauses.proofs.seek.ask.Goals as goal
 

@@ -1,4 +1,3 @@
-use Rattle.std.proofs.Common.{◌≡◌, ◌≤◌, ◌+◌}
 use Rattle.blocked_clauses.proofs.Asking.{Asking}
 use Rattle.blocked_clauses.proofs.seek.ask.Given as goal
 

@@ -1,7 +1,5 @@
-use Rattle.std.proofs.Common.{◌≡◌, ◌<◌, ◌≤◌, length, sym, arith}
-use Rattle.sat_terms.specs.Literal.{neg}
-use Rattle.clause_store.specs.Listing.{HasEachOnce, holds_at}
-use Rattle.blocked_clauses.proofs.Asking.{seeking_none, seeking_more, sought_at, sought_full, sought_none}
+use Rattle.std.proofs.Common.{arith}
+use Rattle.blocked_clauses.proofs.Asking.{seeking_more, sought_at, sought_full, sought_none}
 use Rattle.blocked_clauses.proofs.seek.seek.Goals as goal
 
 pub returns-in-Blocked : goal.returns-in-Blocked

@@ -1,6 +1,3 @@
-use Rattle.std.proofs.Common.{List, Option}
-use Rattle.clause_store.specs.Stored.{Stored}
-use Rattle.firm_terms.specs.Resolving.{IsBlocked}
 use Rattle.firm_terms.proofs.Resolving.{blocked_witness}
 use Rattle.blocked_clauses.proofs.walk.try_lit.Goals as goal
 

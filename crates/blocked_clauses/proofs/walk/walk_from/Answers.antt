@@ -1,5 +1,4 @@
-use Rattle.std.proofs.Common.{◌≡◌, ◌<◌, ◌∙◌, length, false, sym, ap, arith}
-use Rattle.sat_terms.specs.Literal.{var_of}
+use Rattle.std.proofs.Common.{◌<◌, length, sym, ap, arith}
 use Rattle.rule_kernel.specs.Frozen.{is_frozen}
 use Rattle.blocked_clauses.proofs.Walking.{walking_start, walking_settled, walking_busy, walking_parked, walking_full}
 use Rattle.blocked_clauses.proofs.walk.walk_from.Goals as goal
