@@ -10,7 +10,8 @@ use Rattle.sat_terms.proofs.Members.{has_place, has_item}
 use Rattle.firm_terms.specs.Resolving.{resolvent, is_tautology}
 use Rattle.firm_terms.proofs.Resolving.{clashes, clash_of, clash_from, clash_tautology, clash_is}
 
--- No literal before the first place but x has its negation in the second clause, and no literal before the second place has it in the first.
+-- No literal before the first place but x has its negation in the second clause, and no literal before the second place has it in the
+-- first.
 pub record IsClear (x : ℕ) (c d : List ℕ) (i j : ℕ) : Type 0 where
   pub apart : (p q : ℕ) → p < length c → q < length d → (p < i) ⊎ (q < j) → get_or c p 0 ≢ x → get_or d q 0 ≢ neg (get_or c p 0)
 

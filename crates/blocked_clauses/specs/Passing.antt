@@ -34,8 +34,8 @@ gone s t = length (firm s.store) - length (firm t.store)
 abbrev pub most_between : State → ℕ
 most_between s = (lits_sum s.store + 1) * (length (firm s.store) + 1)
 
--- The pass stopped at its limit, after b steps: these were for the literals that were marked, and for those that the clauses marked that were
--- parked. At least b divided by (L + 1) (M + 1) were parked, and the limit is below (L + 1) (M + 1) (M + 1).
+-- The pass stopped at its limit, after b steps: these were for the literals that were marked, and for those that the clauses marked that
+-- were parked. At least b divided by (L + 1) (M + 1) were parked, and the limit is below (L + 1) (M + 1) (M + 1).
 pub record ReachesLimit (s t : State) (limit b : ℕ) : Type 0 where
   pub full : b ≡ limit
   pub spent : b < (marked_sum s + lits_sum s.store * gone s t) * (length (firm s.store) + 1)

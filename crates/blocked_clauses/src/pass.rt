@@ -1,21 +1,21 @@
 //! The pass: blocked clauses go to the reconstruction stack.
 //!
-//! A clause is blocked on one of its literals if every resolvent on it with a firm clause that holds the negation is a tautology (Järvisalo,
-//! Biere, Heule, TACAS 2010). Whatever makes the other clauses true can be made to make it true too, by setting that literal: a clause that
-//! holds the negation stays true by another literal, for where the blocked clause is false, the negation of one of its literals is true and
-//! stands there. So the clause may go, with the literal as witness, and takes with it what only it was for: the clauses that define an
-//! output that nobody reads, say, one after the other.
+//! A clause is blocked on one of its literals if every resolvent on it with a firm clause that holds the negation is a tautology
+//! (Järvisalo, Biere, Heule, TACAS 2010). Whatever makes the other clauses true can be made to make it true too, by setting that literal: a
+//! clause that holds the negation stays true by another literal, for where the blocked clause is false, the negation of one of its literals
+//! is true and stands there. So the clause may go, with the literal as witness, and takes with it what only it was for: the clauses that
+//! define an output that nobody reads, say, one after the other.
 //!
-//! Clauses that go only make more clauses blocked, and in whatever order they go, the same are left. The kernel marks the literals on which a
-//! clause may have become blocked, and no others are looked at: where nothing changed since the last run, a run takes no step. One walk
+//! Clauses that go only make more clauses blocked, and in whatever order they go, the same are left. The kernel marks the literals on which
+//! a clause may have become blocked, and no others are looked at: where nothing changed since the last run, a run takes no step. One walk
 //! (src/walk.rt) goes through the marked literals up to the first clause that is parked (src/seek.rt), and the next one goes on from there;
 //! literals that were marked meanwhile stand at the end of the list. A walk from the front that finds nothing is the last: then only
 //! literals of frozen variables are marked, and the kernel promises of all others that no clause is blocked on them.
 //!
 //! With M firm clauses at the start, a literal that p clauses hold, and its negation q, is done with in at most p max(1, q) steps, and all
-//! that are marked in K (M + 1), where K is how often the marked literals stand in firm clauses. That is at most the sum L of the lengths of
-//! all firm clauses, and as much may be marked anew with each clause that is parked: so from one of these to the next no more than L (M + 1)
-//! steps pass.
+//! that are marked in K (M + 1), where K is how often the marked literals stand in firm clauses. That is at most the sum L of the lengths
+//! of all firm clauses, and as much may be marked anew with each clause that is parked: so from one of these to the next no more than L (M
+//! + 1) steps pass.
 //!
 //! Covered clauses and clauses that are blocked by a set of literals are left out: they need literals to be added to a clause first.
 ghost use Rattle.std.specs.Prelude.{◌≡◌, ◌-◌, Ok, IfOk};
@@ -57,15 +57,15 @@ fn walks(kernel: &mut Kernel, frozen: &Frozen, limit: u64) -> Result<Ended, Memo
 /// Parks clauses that are blocked on a literal whose variable is not frozen, with that literal as witness, until there is none
 /// (`Fixpoint`), or until as many steps were counted as `limit` and one more is needed (`Limit`). A step is a clause tested on a literal
 /// against one clause with its negation, and each clause that is tested on a literal counts at least one. With L the sum of the lengths of
-/// the firm clauses at the start and M their number, a limit of (L + 1) (M + 1) (M + 1) is always enough, and after `Limit(s)` at least
-/// s / ((L + 1) (M + 1)) clauses were parked; s is below (K + L p) (M + 1), where p clauses were parked and the marked literals stood K times
+/// the firm clauses at the start and M their number, a limit of (L + 1) (M + 1) (M + 1) is always enough, and after `Limit(s)` at least s /
+/// ((L + 1) (M + 1)) clauses were parked; s is below (K + L p) (M + 1), where p clauses were parked and the marked literals stood K times
 /// in firm clauses at the start.
 ///
 /// Only marked literals are looked at. Where none is marked but of frozen variables, nothing changes, and the answer is `Fixpoint`,
 /// whatever the limit.
 ///
-/// The kernel changes by its rules alone, as passes may use them (`Ruled`), whatever is answered: after `Memory` it is as the last rule left
-/// it. `removed` is the rise of the kernel's count of removals.
+/// The kernel changes by its rules alone, as passes may use them (`Ruled`), whatever is answered: after `Memory` it is as the last rule
+/// left it. `removed` is the rise of the kernel's count of removals.
 pub fn run(kernel: &mut Kernel, frozen: &Frozen, limit: u64) -> Result<PassReport, Memory>
     ensures ruled { Ruled (is_frozen frozen.now) kernel.old kernel.new }
     ensures removed { IfOk result (λ report. report.removed ≡ kernel.new.removals - kernel.old.removals) }

@@ -1,5 +1,5 @@
-//! What the pass does to small kernels; a variable that is frozen and then no longer; some hundred kernels that are drawn from a seed, against
-//! plain definitions; and a long chain with a long clause, which is above every buffer.
+//! What the pass does to small kernels; a variable that is frozen and then no longer; some hundred kernels that are drawn from a seed,
+//! against plain definitions; and a long chain with a long clause, which is above every buffer.
 ghost use Rattle.std.specs.Prelude.{◌<◌};
 
 use crate::pass::run;

@@ -1,9 +1,10 @@
 //! One walk over the marked literals, up to the first clause that is parked.
 //!
-//! A literal is marked where a clause may have become blocked on it: a clause with it came, or one with its negation went. The walk takes the
-//! marked literals from a place of their list on. On each it seeks a blocked clause. Where there is none, the mark goes, and the last literal
-//! of the list comes to the place; so the walk stays there. Where one is found it is parked, and the literal keeps its mark: another clause
-//! may be blocked on it. Parking marks the negations of the clause's literals, for on these alone a clause may be blocked now that was not.
+//! A literal is marked where a clause may have become blocked on it: a clause with it came, or one with its negation went. The walk takes
+//! the marked literals from a place of their list on. On each it seeks a blocked clause. Where there is none, the mark goes, and the last
+//! literal of the list comes to the place; so the walk stays there. Where one is found it is parked, and the literal keeps its mark:
+//! another clause may be blocked on it. Parking marks the negations of the clause's literals, for on these alone a clause may be blocked
+//! now that was not.
 //!
 //! A literal whose variable is frozen keeps its mark and is passed over, so that it is tried once the variable is frozen no longer.
 ghost use Rattle.std.specs.Prelude.{◌≡◌, ◌≤◌, Ok, IfOk, OnErr};
