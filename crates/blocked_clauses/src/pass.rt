@@ -14,8 +14,8 @@
 //!
 //! With M firm clauses at the start, a literal that p clauses hold, and its negation q, is done with in at most p max(1, q) steps, and all
 //! that are marked in K (M + 1), where K is how often the marked literals stand in firm clauses. That is at most the sum L of the lengths
-//! of all firm clauses, and as much may be marked anew with each clause that is parked: so from one of these to the next no more than L (M
-//! + 1) steps pass.
+//! of all firm clauses, and as much may be marked anew with each clause that is parked: so from one of these to the next no more than
+//! L (M + 1) steps pass.
 //!
 //! Covered clauses and clauses that are blocked by a set of literals are left out: they need literals to be added to a clause first.
 ghost use Rattle.std.specs.Prelude.{◌≡◌, ◌-◌, Ok, IfOk};
@@ -57,9 +57,9 @@ fn walks(kernel: &mut Kernel, frozen: &Frozen, limit: u64) -> Result<Ended, Memo
 /// Parks clauses that are blocked on a literal whose variable is not frozen, with that literal as witness, until there is none
 /// (`Fixpoint`), or until as many steps were counted as `limit` and one more is needed (`Limit`). A step is a clause tested on a literal
 /// against one clause with its negation, and each clause that is tested on a literal counts at least one. With L the sum of the lengths of
-/// the firm clauses at the start and M their number, a limit of (L + 1) (M + 1) (M + 1) is always enough, and after `Limit(s)` at least s /
-/// ((L + 1) (M + 1)) clauses were parked; s is below (K + L p) (M + 1), where p clauses were parked and the marked literals stood K times
-/// in firm clauses at the start.
+/// the firm clauses at the start and M their number, a limit of (L + 1) (M + 1) (M + 1) is always enough, and after `Limit(s)` at least
+/// s / ((L + 1) (M + 1)) clauses were parked; s is below (K + L p) (M + 1), where p clauses were parked and the marked literals stood K
+/// times in firm clauses at the start.
 ///
 /// Only marked literals are looked at. Where none is marked but of frozen variables, nothing changes, and the answer is `Fixpoint`,
 /// whatever the limit.
