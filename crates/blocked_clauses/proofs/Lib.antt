@@ -1,0 +1,6 @@
+pub mod Clashing
+pub mod Asking
+pub mod Weighing
+pub mod Counting
+pub mod Walking
+pub mod Passing
