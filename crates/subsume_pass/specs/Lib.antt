@@ -1,0 +1,3 @@
+pub mod Comparing
+pub mod Choosing
+pub mod Signature
