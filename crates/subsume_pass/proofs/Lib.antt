@@ -1,5 +1,9 @@
+pub mod Changing
 pub mod Clauses
 pub mod Collecting
 pub mod Comparing
+pub mod Setting
 pub mod Signing
 pub mod Sourcing
+pub mod Trying
+pub mod Waiting

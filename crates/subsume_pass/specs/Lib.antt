@@ -1,3 +1,6 @@
 pub mod Comparing
 pub mod Choosing
 pub mod Signature
+pub mod Changing
+pub mod Trying
+pub mod Pass
