@@ -1,0 +1,5 @@
+pub mod Changing
+pub mod Counting
+pub mod Standing
+pub mod Staying
+pub mod Summing
