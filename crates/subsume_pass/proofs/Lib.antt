@@ -2,6 +2,8 @@ pub mod Changing
 pub mod Clauses
 pub mod Collecting
 pub mod Comparing
+pub mod Passing
+pub mod Seeking
 pub mod Setting
 pub mod Signing
 pub mod Sourcing

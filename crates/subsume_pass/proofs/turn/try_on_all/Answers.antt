@@ -1,9 +1,14 @@
 use Rattle.std.proofs.Common.{◌≡◌, ℕ, List, sym}
 use Rattle.clause_store.specs.Stored.{slot, slot_lits}
-use Rattle.subsume_pass.specs.Choosing.{AreCandidates}
+use Rattle.pass_terms.specs.Ruled.Ruled.{none}
 use Rattle.subsume_pass.proofs.Setting.{refuted_at}
-use Rattle.subsume_pass.proofs.Trying.{turned_more}
 use Rattle.subsume_pass.proofs.turn.try_on_all.Goals as goal
+
+pub returns-then-count-eq0-clause-ruled : goal.returns-then-count-eq0-clause-ruled
+returns-then-count-eq0-clause-ruled c = none
+
+pub returns-in_err-ids-clause-ruled : goal.returns-in_err-ids-clause-ruled
+returns-in_err-ids-clause-ruled c = none
 
 pub returns-then-count-eq0-clause-turned : goal.returns-then-count-eq0-clause-turned
 returns-then-count-eq0-clause-turned c =
