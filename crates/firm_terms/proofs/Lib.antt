@@ -1,5 +1,6 @@
 pub mod Changing
 pub mod Counting
+pub mod Signing
 pub mod Standing
 pub mod Staying
 pub mod Summing

@@ -3,3 +3,4 @@ pub mod Resolving
 pub mod Subsuming
 pub mod Implying
 pub mod Vivifying
+pub mod Signing

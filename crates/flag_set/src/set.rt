@@ -19,8 +19,11 @@ use std::marker::Model;
 // What the set has for a number: it is out, in, or was taken out and is listed still.
 #[derive(Clone, Copy)]
 pub(crate) enum Flag {
+    // It is no member, and not listed.
     Out,
+    // It is a member, and listed.
     In,
+    // It was taken out, and is listed still.
     Left,
 }
 

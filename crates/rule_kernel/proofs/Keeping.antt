@@ -1,15 +1,16 @@
 -- Each rule, as the code does it, keeps what every kernel keeps.
-use Rattle.std.proofs.Common.{◌≡◌, ℕ, ◌+◌, ◌<◌, ◌≤◌, true, false, List, ◌∷◌, [], ◌++◌, length, drop, Option, Some, None, inl, inr, refl, arith}
+use Rattle.std.proofs.Common.{◌≡◌, ◌≢◌, ℕ, ◌+◌, ◌<◌, ◌≤◌, true, false, List, ◌∷◌, [], ◌++◌, length, drop, Option, Some, None, inl, inr, refl, arith}
 use Rattle.std.specs.List.{remove}
 use Rattle.std.proofs.lemmas.Bool.{cases_Bool, cases_eq, false≢true}
 use Rattle.sat_terms.specs.Truth.{Implies}
 use Rattle.redundancy.specs.Redundancy.{Entry, Witnesses, Clean, entry}
 use Rattle.clause_store.specs.Stored.{Stored, slot, slot_lits, keeps_firm, is_firm, is_redundant, FirmTrue, OthersTrue, Fills, Frees, SameSlots}
+use Rattle.firm_terms.specs.Signing.{IsSignature}
 use Rattle.firm_terms.proofs.Changing.{same_firms_filled, same_firms_freed}
 use Rattle.rule_kernel.specs.Changes.{Markable, marked, HasRoom, MarksCame, MarksWent}
-use Rattle.rule_kernel.specs.Waiting.{Waitable, waiting, Waits, Leaves}
+use Rattle.rule_kernel.specs.Waiting.{Waitable, waiting, signature, Signs, Waits, Leaves}
 use Rattle.rule_kernel.specs.Settled.{Settled, unsettled}
-use Rattle.rule_kernel.specs.State.{FirmIds, IsKept, Promises}
+use Rattle.rule_kernel.specs.State.{FirmIds, FirmSigned, IsKept, Promises}
 use Rattle.rule_kernel.specs.Rules.{firm_clause, redundant_clause}
 use Rattle.rule_kernel.proofs.Chained.{chain_added, chain_implied, chain_learned, chain_dropped, chain_forgotten, chain_parked, chain_restored, chain_kept}
 use Rattle.rule_kernel.proofs.Marking.{firm_more, firm_filled, firm_freed, firm_same}
@@ -30,6 +31,21 @@ ids_freed room old new id frees h k =
       | inr n ↦ rw (frees.others k n) (h k)
     ]
 
+-- and signatures
+signed_filled : (old new : List (Option Stored)) (id : ℕ) (c : Stored) (before after : List ℕ) → Fills old new id c → (is_firm (Some c) ≡ true → IsSignature c.lits (signature after id)) → ((k : ℕ) → k ≢ id → signature after k ≡ signature before k) → FirmSigned before old → FirmSigned after new
+signed_filled old new id c before after fills here same h k =
+    elim (cases_eq k id) [
+      | inl e ↦ rw (e, fills.filled) here
+      | inr n ↦ rw (fills.others k n, same k n) (h k)
+    ]
+
+signed_freed : (old new : List (Option Stored)) (id : ℕ) (signatures : List ℕ) → Frees old new id → FirmSigned signatures old → FirmSigned signatures new
+signed_freed old new id signatures frees h k =
+    elim (cases_eq k id) [
+      | inl e ↦ rw (e, frees.freed) (λ f. absurd (false≢true f))
+      | inr n ↦ rw (frees.others k n) (h k)
+    ]
+
 not_firm : (x : Option Stored) → is_redundant x ≡ true → is_firm x ≡ false
 not_firm None h = refl
 not_firm (Some c) h = elim (cases_Bool (keeps_firm c.keep)) [ inl a ↦ absurd (false≢true (rw a at h)) | inr a ↦ a ]
@@ -43,6 +59,7 @@ pub record Entered (old new : List (Option Stored)) (id : ℕ) (lits : List ℕ)
   pub waits : Waits (waiting w) (waiting w') id
   pub within : id < w'.room
   pub more_ids : w.room ≤ w'.room
+  pub signs : Signs w.signatures w'.signatures id lits
   pub settled : x' ≡ unsettled x
 
 -- a firm clause went
@@ -52,14 +69,16 @@ pub record Left (old new : List (Option Stored)) (id : ℕ) (m m' : Markable) (w
   pub same : m'.room ≡ m.room
   pub leaves : Leaves (waiting w) (waiting w') id
   pub same_ids : w'.room ≡ w.room
+  pub signed : w'.signatures ≡ w.signatures
 
 module _ {old : List (Option Stored)} {s : List Entry} {m : Markable} {w : Waitable} {x : Settled} (h : IsKept old s m w x) where
   -- there is more room
-  pub kept_more : (m' : Markable) (w' : Waitable) (x' : Settled) → m.room ≤ m'.room → w.room ≤ w'.room → marked m' ≡ marked m → waiting w' ≡ waiting w → x' ≡ x → IsKept old s m' w' x'
-  kept_more m' w' x' le le' sm sw sx = record {
+  pub kept_more : (m' : Markable) (w' : Waitable) (x' : Settled) → m.room ≤ m'.room → w.room ≤ w'.room → marked m' ≡ marked m → waiting w' ≡ waiting w → ((k : ℕ) → signature w'.signatures k ≡ signature w.signatures k) → x' ≡ x → IsKept old s m' w' x'
+  kept_more m' w' x' le le' sm sw ss sx = record {
     chain = h.chain;
     room = firm_more m.room m'.room old le h.room;
     ids = λ id f. let b = h.ids id f in omega arith;
+    signed = λ id. rw (ss id) (h.signed id);
     promises = rw (sm, sw, sx) h.promises;
   }
 
@@ -69,6 +88,7 @@ module _ {old : List (Option Stored)} {s : List Entry} {m : Markable} {w : Waita
     chain = chain_kept old new s same h.chain;
     room = firm_same m.room old new same h.room;
     ids = λ id. rw (same id) (h.ids id);
+    signed = λ id. rw (same id) (h.signed id);
     promises = promises_kept h.promises (λ k. inl (same k));
   }
 
@@ -79,14 +99,17 @@ module _ {old : List (Option Stored)} {s : List Entry} {m : Markable} {w : Waita
     came_ids : FirmIds w'.room new
     came_ids = ids_filled w.room w'.room old new id (firm_clause lits) e.fills e.more_ids (λ _. e.within) h.ids
 
+    came_signed : FirmSigned w'.signatures new
+    came_signed = signed_filled old new id (firm_clause lits) w.signatures w'.signatures e.fills (λ _. e.signs.here) e.signs.others h.signed
+
     came_promises : Promises new (marked m') (waiting w') x'
     came_promises = rw e.settled (promises_came h.promises lits e.fills e.marks e.waits)
 
     pub kept_added : Clean lits s → IsKept new s m' w' x'
-    kept_added clean = record { chain = chain_added old new s lits id e.fills clean h.chain; room = came_room; ids = came_ids; promises = came_promises }
+    kept_added clean = record { chain = chain_added old new s lits id e.fills clean h.chain; room = came_room; ids = came_ids; signed = came_signed; promises = came_promises }
 
     pub kept_implied : Implies (FirmTrue old) lits → IsKept new s m' w' x'
-    kept_implied implied = record { chain = chain_implied old new s lits id e.fills implied h.chain; room = came_room; ids = came_ids; promises = came_promises }
+    kept_implied implied = record { chain = chain_implied old new s lits id e.fills implied h.chain; room = came_room; ids = came_ids; signed = came_signed; promises = came_promises }
 
   -- the clause of an entry comes back
   pub kept_restored : {new : List (Option Stored)} {id : ℕ} {m' : Markable} {w' : Waitable} {x' : Settled} (k : ℕ)
@@ -95,6 +118,7 @@ module _ {old : List (Option Stored)} {s : List Entry} {m : Markable} {w : Waita
     chain = chain_restored old new s k id in' clean e.fills h.chain;
     room = came_room e;
     ids = came_ids e;
+    signed = came_signed e;
     promises = came_promises e;
   }
 
@@ -103,6 +127,7 @@ module _ {old : List (Option Stored)} {s : List Entry} {m : Markable} {w : Waita
     chain = chain_learned old new s lits glue id fills h.chain;
     room = firm_filled m.room old new id (redundant_clause lits glue) fills (λ f. absurd (false≢true f)) h.room;
     ids = ids_filled w.room w.room old new id (redundant_clause lits glue) fills (omega arith) (λ f. absurd (false≢true f)) h.ids;
+    signed = signed_filled old new id (redundant_clause lits glue) w.signatures w.signatures fills (λ f. absurd (false≢true f)) (λ k n. refl) h.signed;
     promises = promises_kept h.promises (same_firms_filled old new id (redundant_clause lits glue) fills refl);
   }
 
@@ -111,6 +136,7 @@ module _ {old : List (Option Stored)} {s : List Entry} {m : Markable} {w : Waita
     chain = chain_forgotten old new s id frees redundant h.chain;
     room = firm_freed m.room old new id frees h.room;
     ids = ids_freed w.room old new id frees h.ids;
+    signed = signed_freed old new id w.signatures frees h.signed;
     promises = promises_kept h.promises (same_firms_freed old new id frees (not_firm (slot old id) redundant));
   }
 
@@ -122,20 +148,23 @@ module _ {old : List (Option Stored)} {s : List Entry} {m : Markable} {w : Waita
     went_ids : FirmIds w'.room new
     went_ids = rw l.same_ids (ids_freed w.room old new id l.frees h.ids)
 
+    went_signed : FirmSigned w'.signatures new
+    went_signed = rw l.signed (signed_freed old new id w.signatures l.frees h.signed)
+
     went_promises : Promises new (marked m') (waiting w') x
     went_promises = promises_went h.promises l.frees l.marks l.leaves
 
     pub kept_dropped : Implies (OthersTrue old id) (slot_lits (slot old id)) → IsKept new s m' w' x
-    kept_dropped implied = record { chain = chain_dropped old new s id l.frees implied h.chain; room = went_room; ids = went_ids; promises = went_promises }
+    kept_dropped implied = record { chain = chain_dropped old new s id l.frees implied h.chain; room = went_room; ids = went_ids; signed = went_signed; promises = went_promises }
 
     pub kept_parked : (v : List ℕ) → is_firm (slot old id) ≡ true → Witnesses (OthersTrue old id) v (slot_lits (slot old id))
         → IsKept new (s ++ record { witness = v; clause = slot_lits (slot old id) } ∷ []) m' w' x
-    kept_parked v firm' witnessed = record { chain = chain_parked old new s id v l.frees firm' witnessed h.chain; room = went_room; ids = went_ids; promises = went_promises }
+    kept_parked v firm' witnessed = record { chain = chain_parked old new s id v l.frees firm' witnessed h.chain; room = went_room; ids = went_ids; signed = went_signed; promises = went_promises }
 
   -- Marks come off: where what passes may rely on still holds.
-  pub kept_marks : (m' : Markable) (w' : Waitable) (x' : Settled) → m'.room ≡ m.room → w'.room ≡ w.room → Promises old (marked m') (waiting w') x' → IsKept old s m' w' x'
-  kept_marks m' w' x' r r' p = record { chain = h.chain; room = rw r h.room; ids = rw r' h.ids; promises = p }
+  pub kept_marks : (m' : Markable) (w' : Waitable) (x' : Settled) → m'.room ≡ m.room → w'.room ≡ w.room → w'.signatures ≡ w.signatures → Promises old (marked m') (waiting w') x' → IsKept old s m' w' x'
+  kept_marks m' w' x' r r' ss p = record { chain = h.chain; room = rw r h.room; ids = rw r' h.ids; signed = rw ss h.signed; promises = p }
 
 -- nothing is there yet
 pub kept_none : (old : List (Option Stored)) (s : List Entry) (m : Markable) (w : Waitable) (x : Settled) → old ≡ [] → s ≡ [] → Promises [] (marked m) (waiting w) x → IsKept old s m w x
-kept_none old s m w x e e' p = rw (e, e') (record { chain = tt; room = λ id f. absurd (false≢true f); ids = λ id f. absurd (false≢true f); promises = p })
+kept_none old s m w x e e' p = rw (e, e') (record { chain = tt; room = λ id f. absurd (false≢true f); ids = λ id f. absurd (false≢true f); signed = λ id f. absurd (false≢true f); promises = p })

@@ -7,10 +7,11 @@ use Rattle.firm_terms.specs.Firm.{firm}
 use Rattle.firm_terms.specs.Resolving.{candidate, BlocksNone}
 use Rattle.firm_terms.specs.Subsuming.{IsFree}
 use Rattle.firm_terms.specs.Implying.{NoEquivalents}
+use Rattle.firm_terms.specs.Signing.{IsSignature}
 use Rattle.firm_terms.specs.Vivifying.{AllCalm}
 use Rattle.rule_kernel.specs.Changes.{Marked, Markable, marked, HasRoom}
 use Rattle.rule_kernel.specs.Frozen.{is_frozen}
-use Rattle.rule_kernel.specs.Waiting.{Waiting, Waitable, waiting}
+use Rattle.rule_kernel.specs.Waiting.{Waiting, Waitable, waiting, signature}
 use Rattle.rule_kernel.specs.Settled.{Settled}
 
 -- the clauses by their ids, the reconstruction stack, oldest first, how often clauses were removed and restored, what is marked as
@@ -36,6 +37,10 @@ FirmRoom room s = (id : ℕ) → is_firm (slot s id) ≡ true → HasRoom room (
 abbrev pub FirmIds : ℕ → List (Option Stored) → Type 0
 FirmIds room s = (id : ℕ) → is_firm (slot s id) ≡ true → id < room
 
+-- for each firm clause its signature is kept
+abbrev pub FirmSigned : List ℕ → List (Option Stored) → Type 0
+FirmSigned signatures s = (id : ℕ) → is_firm (slot s id) ≡ true → IsSignature (slot_lits (slot s id)) (signature signatures id)
+
 -- the ids are those of firm clauses
 abbrev pub AllFirm : List (Option Stored) → List ℕ → Type 0
 AllFirm s ids = (id : ℕ) → has ids id ≡ true → is_firm (slot s id) ≡ true
@@ -59,12 +64,13 @@ pub record Promises (s : List (Option Stored)) (marked : Marked) (waiting : Wait
   pub untied : settled.untied ≡ true → NoEquivalents (is_frozen settled.frozen) s
   pub calm : settled.calm ≡ true → AllCalm s
 
--- What every kernel keeps: the chain, what passes may rely on, and room to mark the variables of each firm clause when it goes, and to
--- have it wait.
+-- What every kernel keeps: the chain, what passes may rely on, room to mark the variables of each firm clause when it goes, and to have
+-- it wait, and its signature.
 pub record IsKept (store : List (Option Stored)) (stack : List Entry) (m : Markable) (w : Waitable) (settled : Settled) : Type 0 where
   pub chain : Chain (FirmTrue store) stack
   pub room : FirmRoom m.room store
   pub ids : FirmIds w.room store
+  pub signed : FirmSigned w.signatures store
   pub promises : Promises store (marked m) (waiting w) settled
 
 -- the same of a state, but for the room

@@ -27,10 +27,11 @@ ghost use Rattle.firm_terms.specs.Firm.{firm as firm_clauses};
 ghost use Rattle.firm_terms.specs.Resolving.{candidate, BlocksNone};
 ghost use Rattle.firm_terms.specs.Subsuming.{IsFree, IsDone};
 ghost use Rattle.firm_terms.specs.Implying.{NoEquivalents};
+ghost use Rattle.firm_terms.specs.Signing.{IsSignature};
 ghost use Rattle.firm_terms.specs.Vivifying.{AllCalm};
 ghost use Rattle.rule_kernel.specs.Changes.{marked, HasRoom, MarksCame, MarksWent};
 ghost use Rattle.rule_kernel.specs.Frozen.{is_frozen};
-ghost use Rattle.rule_kernel.specs.Waiting.{waiting as waiting_of, Waits, Leaves};
+ghost use Rattle.rule_kernel.specs.Waiting.{waiting as waiting_of, signature, Signs, Waits, Leaves};
 ghost use Rattle.rule_kernel.specs.Settled.{unsettled};
 ghost use Rattle.rule_kernel.specs.State.{IsChained, IsPromised, FirmIds, AllFirm};
 ghost use Rattle.rule_kernel.specs.Rules.{counted, firm_clause, Applies, Add, AddImplied, DropImplied, Park, Restore, Learn, Forget, SameRest, SameButMarks};
@@ -111,19 +112,21 @@ fn enter(
     ensures room { OnOk result (HasRoom changes.new.room lits.now) }
     ensures waits { IfOk result (λ id. Waits (waiting_of waiting.old) (waiting_of waiting.new) id) }
     ensures id { IfOk result (λ id. id < waiting.new.room) }
+    ensures signs { IfOk result (λ id. Signs waiting.old.signatures waiting.new.signatures id lits.now) }
     ensures settled { OnOk result (settled.new ≡ unsettled settled.old) }
     ensures more { changes.old.room ≤ changes.new.room }
     ensures more_ids { waiting.old.room ≤ waiting.new.room }
     ensures err { OnErr result (store.new ≡ store.old) }
     ensures unmarked { OnErr result (marked changes.new ≡ marked changes.old) }
     ensures unwaiting { OnErr result (waiting_of waiting.new ≡ waiting_of waiting.old) }
+    ensures unsigned { OnErr result ((k : ℕ) → signature waiting.new.signatures k ≡ signature waiting.old.signatures k) }
     ensures unmoved { OnErr result (settled.new ≡ settled.old) }
 {
     changes.reach(lits)?;
     waiting.reach(store.id_bound())?;
     let id = store.add(lits, Keep::Firm, 0)?;
     changes.came(lits);
-    waiting.came(id);
+    waiting.came(id, lits);
     settled.came();
     Ok(id)
 }
@@ -137,6 +140,7 @@ fn leave(store: &mut Store, changes: &mut Changes, waiting: &mut Waiting, id: Cl
     ensures room { changes.new.room ≡ changes.old.room }
     ensures leaves { Leaves (waiting_of waiting.old) (waiting_of waiting.new) id }
     ensures ids { waiting.new.room ≡ waiting.old.room }
+    ensures signatures { waiting.new.signatures ≡ waiting.old.signatures }
 {
     changes.went(store.get(id));
     waiting.went(id);
@@ -253,6 +257,15 @@ impl Kernel {
         ensures { result.now ≡ self.now.waiting.fresh }
     {
         self.waiting.fresh()
+    }
+
+    /// The signature of a firm clause: a bit for each class of variables by their number modulo 64, set where one stands in the clause. One
+    /// that has a bit which another clause's lacks neither lies within that one nor shortens it (Eén and Biere, SAT 2005).
+    pub fn signature(&self, id: ClauseId) -> u64
+        requires { is_firm (slot self.now.store id) ≡ true }
+        ensures { IsSignature (slot_lits (slot self.now.store id)) result }
+    {
+        self.waiting.signature(id)
     }
 
     /// A clause neither lies within another firm one nor shortens one: it waits no longer to be tried on them.

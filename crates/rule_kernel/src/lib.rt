@@ -8,6 +8,7 @@ pub mod kernel;
 pub mod laws;
 pub mod report;
 mod settled;
+mod signature;
 #[cfg(test)]
 mod tests;
 mod waiting;

@@ -5,14 +5,18 @@
 //! the opposite of one. And it is *fresh*: all others are to be tried on it. Both kinds are told apart, since a pass that shortens a clause
 //! knows more of what it puts there than of a clause from outside.
 //!
+//! Beside each clause stands its signature (src/signature.rt), by which most pairs are told apart without their literals.
+//!
 //! The ids stand in work lists, so that a pass with nothing to compare costs nothing. As with the marks, all memory is taken before a rule
 //! changes anything: there is room for the ids of all firm clauses.
 ghost use Rattle.std.specs.Prelude.{◌≡◌, ◌≤◌, ◌<◌, ◌==◌, ◌||◌, ◌&&◌, not, true, ℕ, [], length, OnOk};
 ghost use Rattle.sat_terms.specs.Literal.{has};
-ghost use Rattle.rule_kernel.specs.Waiting.{waiting, Waits, Leaves};
+ghost use Rattle.rule_kernel.specs.Waiting.{waiting, signature, Signs, Waits, Leaves};
 
+use crate::signature::signature_of;
 use flag_set::work::WorkList;
 use sat_model::lists::ClauseId;
+use sat_model::literal::Lit;
 use sat_model::memory::Memory;
 use std::alloc::Global;
 use std::marker::Model;
@@ -27,17 +31,19 @@ pub(crate) struct Waiting {
     due: WorkList<ClauseId>,
     // Those on which all others are to be tried. There is as much room here as for `due`.
     fresh: WorkList<ClauseId>,
+    // The signature of each firm clause, by its id; what other ids have here says nothing.
+    signatures: Vec<u64>,
 }
 
 impl Model for Waiting {
-    ghost use Rattle.std.specs.Prelude.{◌≤◌};
+    ghost use Rattle.std.specs.Prelude.{◌≤◌, length};
     ghost use Rattle.rule_kernel.specs.Waiting.{Waitable};
 
     ghost Value = { Waitable };
 
-    ghost view = { λ w. record { due = w.due.members; fresh = w.fresh.members; room = w.due.room } };
+    ghost view = { λ w. record { due = w.due.members; fresh = w.fresh.members; signatures = w.signatures.items; room = w.due.room } };
 
-    ghost invariant = { λ w. w.due.room ≤ w.fresh.room };
+    ghost invariant = { λ w. (w.due.room ≤ w.fresh.room) × (w.due.room ≤ length w.signatures.items) };
 }
 
 // Puts ids that there is room for on a list.
@@ -60,6 +66,7 @@ impl Waiting {
         Waiting {
             due: WorkList::new(alloc),
             fresh: WorkList::new(alloc),
+            signatures: Vec::new(alloc),
         }
     }
 
@@ -81,6 +88,7 @@ impl Waiting {
     pub(crate) fn reach(&mut self, next: usize) -> Result<(), Memory>
         ensures due { self.new.due ≡ self.old.due }
         ensures fresh { self.new.fresh ≡ self.old.fresh }
+        ensures signatures { (k : ℕ) → signature self.new.signatures k ≡ signature self.old.signatures k }
         ensures more { self.old.room ≤ self.new.room }
         ensures room { OnOk result (next < self.new.room) }
     {
@@ -88,17 +96,30 @@ impl Waiting {
             return Err(Memory);
         }
         let id = ClauseId::new(next);
+        if next >= self.signatures.len() {
+            self.signatures.resize(next + 1, 0)?;
+        }
         self.fresh.reach(id)?;
         self.due.reach(id)?;
         Ok(())
     }
 
+    // The signature that is kept for an id.
+    pub(crate) fn signature(&self, id: ClauseId) -> u64
+        requires { id < self.now.room }
+        ensures { result ≡ signature self.now.signatures id }
+    {
+        self.signatures[id.index()]
+    }
+
     // A clause came, and waits in both ways.
-    pub(crate) fn came(&mut self, id: ClauseId)
+    pub(crate) fn came(&mut self, id: ClauseId, lits: &[Lit])
         requires { id < self.old.room }
         ensures waits { Waits (waiting self.old) (waiting self.new) id }
+        ensures signs { Signs self.old.signatures self.new.signatures id lits.now }
         ensures room { self.new.room ≡ self.old.room }
     {
+        self.signatures[id.index()] = signature_of(lits);
         self.due.put(id);
         self.fresh.put(id);
     }
@@ -106,6 +127,7 @@ impl Waiting {
     // A clause goes, and waits no longer.
     pub(crate) fn went(&mut self, id: ClauseId)
         ensures leaves { Leaves (waiting self.old) (waiting self.new) id }
+        ensures signatures { self.new.signatures ≡ self.old.signatures }
         ensures room { self.new.room ≡ self.old.room }
     {
         self.due.take_out(id);
@@ -116,6 +138,7 @@ impl Waiting {
     pub(crate) fn settle_due(&mut self, id: ClauseId)
         ensures due { (k : ℕ) → has self.new.due k ≡ (has self.old.due k && not (id == k)) }
         ensures fresh { self.new.fresh ≡ self.old.fresh }
+        ensures signatures { self.new.signatures ≡ self.old.signatures }
         ensures room { self.new.room ≡ self.old.room }
     {
         self.due.take_out(id);
@@ -125,6 +148,7 @@ impl Waiting {
     pub(crate) fn settle_fresh(&mut self, id: ClauseId)
         ensures due { self.new.due ≡ self.old.due }
         ensures fresh { (k : ℕ) → has self.new.fresh k ≡ (has self.old.fresh k && not (id == k)) }
+        ensures signatures { self.new.signatures ≡ self.old.signatures }
         ensures room { self.new.room ≡ self.old.room }
     {
         self.fresh.take_out(id);
@@ -135,6 +159,7 @@ impl Waiting {
         requires { (id : ℕ) → has ids.now id ≡ true → id < self.old.room }
         ensures due { (k : ℕ) → has self.new.due k ≡ (has self.old.due k || has ids.now k) }
         ensures fresh { self.new.fresh ≡ [] }
+        ensures signatures { self.new.signatures ≡ self.old.signatures }
         ensures room { self.new.room ≡ self.old.room }
     {
         self.fresh.clear();

@@ -11,6 +11,7 @@ invariant_of-self-2 c =
       waits = c.in_ok-id.ensures.waits;
       within = c.in_ok-id.ensures.id;
       more_ids = c.enter.ensures.more_ids;
+      signs = c.in_ok-id.ensures.signs;
       settled = c.in_ok-id.ensures.settled;
     })
     (rw (← c.self.view_is) at c.requires.clean)

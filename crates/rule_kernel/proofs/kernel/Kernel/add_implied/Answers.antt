@@ -11,6 +11,7 @@ invariant_of-self-2 c =
       waits = c.in_ok-implied.ensures.waits;
       within = c.in_ok-implied.ensures.id;
       more_ids = c.enter.ensures.more_ids;
+      signs = c.in_ok-implied.ensures.signs;
       settled = c.in_ok-implied.ensures.settled;
     })
     (rw (← c.self.view_is) at c.requires.implied)

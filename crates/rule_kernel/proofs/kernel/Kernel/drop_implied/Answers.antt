@@ -9,5 +9,6 @@ invariant_of-self c =
       same = c.leave.ensures.room;
       leaves = c.leave.ensures.leaves;
       same_ids = c.leave.ensures.ids;
+      signed = c.leave.ensures.signatures;
     })
     (rw (← c.self.view_is) at c.requires.implied)

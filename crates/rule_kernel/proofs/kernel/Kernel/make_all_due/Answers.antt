@@ -10,7 +10,7 @@ all_due-requires c id h = c.self.invariant.ids id (sym (listed_has (firm_at c.se
 
 pub invariant_of-self : goal.invariant_of-self
 invariant_of-self c =
-    kept_marks c.self.invariant _ _ _ refl c.all_due.ensures.room
+    kept_marks c.self.invariant _ _ _ refl c.all_due.ensures.room c.all_due.ensures.signatures
     (promises_all_due c.self.invariant.promises _ (all_listed c.self.inside.store _ c.firm_ids.result.now _ c.self.invariant.promises.due c.firm_ids.ensures c.all_due.ensures.due) c.all_due.ensures.fresh)
 
 pub returns-clause-due : goal.returns-clause-due

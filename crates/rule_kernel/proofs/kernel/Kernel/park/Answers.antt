@@ -10,5 +10,6 @@ invariant_of-self-2 c =
       same = c.leave.ensures.room;
       leaves = c.leave.ensures.leaves;
       same_ids = c.leave.ensures.ids;
+      signed = c.leave.ensures.signatures;
     })
     _ (rw (← c.self.view_is) at c.requires.firm) (rw (← c.self.view_is) at c.requires.witnessed))

@@ -17,6 +17,7 @@ invariant_of-self-2 c =
       waits = c.in_ok-id.ensures.waits;
       within = c.in_ok-id.ensures.id;
       more_ids = c.enter.ensures.more_ids;
+      signs = rw c.clause.ensures at c.in_ok-id.ensures.signs;
       settled = c.in_ok-id.ensures.settled;
     })
     (rw (← c.self.view_is) at c.requires.within) (rw (← c.self.view_is) at c.requires.clean))

@@ -5,5 +5,5 @@ use Rattle.rule_kernel.proofs.kernel.Kernel.settle_fresh.Goals as goal
 
 pub invariant_of-self : goal.invariant_of-self
 invariant_of-self c =
-    kept_marks c.self.invariant _ _ _ refl c.settle_fresh.ensures.room
+    kept_marks c.self.invariant _ _ _ refl c.settle_fresh.ensures.room c.settle_fresh.ensures.signatures
     (promises_fresh c.self.invariant.promises _ c.args.id c.settle_fresh.ensures.due c.settle_fresh.ensures.fresh (rw (← c.self.view_is) at c.requires))

@@ -5,5 +5,5 @@ use Rattle.rule_kernel.proofs.kernel.Kernel.settle_var.Goals as goal
 
 pub invariant_of-self : goal.invariant_of-self
 invariant_of-self c =
-    kept_marks c.self.invariant _ _ _ c.unmark_var.ensures.room refl
+    kept_marks c.self.invariant _ _ _ c.unmark_var.ensures.room refl refl
     (promises_var c.self.invariant.promises _ c.args.var c.unmark_var.ensures.vars c.unmark_var.ensures.lits (rw (← c.self.view_is) at c.requires))
