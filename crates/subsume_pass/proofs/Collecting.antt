@@ -1,6 +1,6 @@
 -- Laws of the clauses with which a clause is to be compared.
-use Rattle.std.proofs.Common.{◌≡◌, ◌≢◌, ℕ, suc, zero, ◌+◌, ◌-◌, ◌<◌, ◌≤◌, Bool, true, false, eqb, ◌&&◌, ◌||◌, List, [], ◌∷◌, ◌++◌, length, get_or, take, Option, Some, None, inl, inr, ◌⊎◌, refl, sym, ap, ◌∙◌, subst, arith}
-use Rattle.std.proofs.lemmas.Bool.{false≢true, cases_Bool, cases_eq, cases_lt, and_parts, false_from_ne_true, eqb-true, eq-eqb, or_left}
+use Rattle.std.proofs.Common.{◌≡◌, ◌≢◌, ℕ, suc, zero, ◌+◌, ◌-◌, ◌<◌, ◌≤◌, Bool, true, false, eqb, ◌&&◌, ◌||◌, List, [], ◌∷◌, ◌++◌, length, get_or, take, Option, Some, None, inl, inr, ◌⊎◌, refl, sym, ap, ◌∙◌, subst, arith, bit_and, nat_lt}
+use Rattle.std.proofs.lemmas.Bool.{ltb-true, false≢true, cases_Bool, cases_eq, cases_lt, and_parts, false_from_ne_true, eqb-true, eq-eqb, or_left}
 use Rattle.std.proofs.lemmas.List.{get_or_default, take_more, take_all}
 use Rattle.sat_terms.specs.Literal.{has, neg, var_of}
 use Rattle.sat_terms.specs.Normal.{IsNormal}
@@ -10,9 +10,11 @@ use Rattle.clause_store.specs.Stored.{Stored, slot, slot_lits, is_firm}
 use Rattle.clause_store.specs.Listing.{times, HasEachOnce, holds_at}
 use Rattle.clause_store.proofs.Counts.{gains_push, times_at}
 use Rattle.firm_terms.specs.Firm.{firm}
-use Rattle.firm_terms.proofs.Counting.{one_if, tally, tally_le, length_times, slot_within, count_tally, count_firm, place_of}
+use Rattle.firm_terms.specs.Signing.{IsSignature}
+use Rattle.firm_terms.proofs.Signing.{tells}
+use Rattle.firm_terms.proofs.Counting.{one_if, tally, tally_le, length_times, slot_within, count_tally, count_firm, place_of, listed}
 use Rattle.firm_terms.specs.Subsuming.{IsWithin, Resolves, IsFree}
-use Rattle.subsume_pass.specs.Choosing.{Collects, AreCandidates}
+use Rattle.subsume_pass.specs.Choosing.{AreFree, Collects, AreCandidates}
 use Rattle.subsume_pass.proofs.Clauses.{at_place, place, vars_rise, not_both}
 use Rattle.subsume_pass.proofs.Comparing.{free_missing}
 
@@ -70,14 +72,13 @@ free_shorter c d n m lt = record {
 }
 
 -- while the clauses of a literal are collected
-pub record Collecting (s : List (Option Stored)) (occ : List ℕ) (least i : ℕ) (old new : List ℕ) : Type 0 where
-  pub kept : (k : ℕ) → has old k ≡ true → has new k ≡ true
-  pub upto : (m : ℕ) → m < i → least ≤ length (slot_lits (slot s (get_or occ m 0))) → has new (get_or occ m 0) ≡ true
-  pub normal : (m : ℕ) → m < i → IsNormal (slot_lits (slot s (get_or occ m 0)))
+pub record Collecting (s : List (Option Stored)) (by : ℕ) (occ : List ℕ) (i : ℕ) (old new : List ℕ) : Type 0 where
+  pub kept : (k : ℕ) → has new k ≡ false → has old k ≡ false
+  pub upto : (m : ℕ) → m < i → has new (get_or occ m 0) ≡ false → AreFree s by (get_or occ m 0)
   pub once : (k : ℕ) → times new k ≤ times old k + times (take i occ) k
 
-pub collecting_none : (s : List (Option Stored)) (occ : List ℕ) (least : ℕ) (old : List ℕ) → Collecting s occ least 0 old old
-collecting_none s occ least old = record { kept = λ k h. h; upto = λ m lt. absurd (omega arith); normal = λ m lt. absurd (omega arith); once = λ k. omega arith }
+pub collecting_none : (s : List (Option Stored)) (by : ℕ) (occ old : List ℕ) → Collecting s by occ 0 old old
+collecting_none s by occ old = record { kept = λ k h. h; upto = λ m lt. absurd (omega arith); once = λ k. omega arith }
 
 pub times_push : (v : List ℕ) (x k : ℕ) → times (v ++ x ∷ []) k ≡ times v k + one_if (eqb x k)
 times_push v x k =
@@ -93,33 +94,40 @@ times_take occ i x k in' read = ap (λ (z : List ℕ). times z k) (take_more occ
 pub at_read : (occ : List ℕ) (i x m : ℕ) → i < length occ → x ≡ get_or occ i x → m ≡ i → get_or occ m 0 ≡ x
 at_read occ i x m in' read e = ap (λ (z : ℕ). get_or occ z 0) e ∙ sym (read ∙ get_or_default occ i x 0 in')
 
-pub collecting_push : (s : List (Option Stored)) (occ : List ℕ) (least i id : ℕ) (old now new : List ℕ) → i < length occ → id ≡ get_or occ i id → IsNormal (slot_lits (slot s id)) → new ≡ now ++ id ∷ [] → Collecting s occ least i old now → Collecting s occ least (i + 1) old new
-collecting_push s occ least i id old now new in' read normal pushed h = rw pushed (record {
-  kept = λ k y. has-append_left now (id ∷ []) k (h.kept k y);
-  upto = λ m lt le. elim (cases_lt m i) [
-    | inl less ↦ has-append_left now (id ∷ []) (get_or occ m 0) (h.upto m less le)
-    | inr ge ↦ (let e = at_read occ i id m in' read (let q : m ≡ i = omega arith in q) in has-append_right now (id ∷ []) (get_or occ m 0) (or_left (eqb id (get_or occ m 0)) false (eq-eqb id (get_or occ m 0) (sym e))))
+pub holds : (s : List (Option Stored)) (l id : ℕ) → is_firm (slot s id) ≡ true → has (slot_lits (slot s id)) l ≡ true → holds_at s l id ≡ true
+holds s l id f h = rw (f, h) refl
+
+-- what is not there after one more came was not there, and is another one
+pub before_push : (v : List ℕ) (x k : ℕ) → has (v ++ x ∷ []) k ≡ false → (has v k ≡ false) × (k ≢ x)
+before_push v x k n = (
+  false_from_ne_true (has v k) (λ y. false≢true (sym n ∙ has-append_left v (x ∷ []) k y)),
+  λ e. false≢true (sym n ∙ has-append_right v (x ∷ []) k (or_left (eqb x k) false (eq-eqb x k (sym e)))),
+)
+
+pub collecting_push : (s : List (Option Stored)) (by : ℕ) (occ : List ℕ) (i id : ℕ) (old now new : List ℕ) → i < length occ → id ≡ get_or occ i id → new ≡ now ++ id ∷ [] → Collecting s by occ i old now → Collecting s by occ (i + 1) old new
+collecting_push s by occ i id old now new in' read pushed h = rw pushed (record {
+  kept = λ k n. h.kept k (before_push now id k n).0;
+  upto = λ m lt n. elim (cases_lt m i) [
+    | inl less ↦ h.upto m less (before_push now id (get_or occ m 0) n).0
+    | inr ge ↦ absurd ((before_push now id (get_or occ m 0) n).1 (at_read occ i id m in' read (let q : m ≡ i = omega arith in q)))
   ];
-  normal = λ m lt. elim (cases_lt m i) [ inl less ↦ h.normal m less | inr ge ↦ (let e = at_read occ i id m in' read (let q : m ≡ i = omega arith in q) in subst (λ (z : ℕ). IsNormal (slot_lits (slot s z))) (sym e) normal) ];
   once = λ k. (let a = times_push now id k in let b = times_take occ i id k in' read in let c = h.once k in omega arith);
 })
 
-pub collecting_skip : (s : List (Option Stored)) (occ : List ℕ) (least i id : ℕ) (old now : List ℕ) → i < length occ → id ≡ get_or occ i id → IsNormal (slot_lits (slot s id)) → length (slot_lits (slot s id)) < least → Collecting s occ least i old now → Collecting s occ least (i + 1) old now
-collecting_skip s occ least i id old now in' read normal short h = record {
+pub collecting_skip : (s : List (Option Stored)) (by : ℕ) (occ : List ℕ) (i id : ℕ) (old now : List ℕ) → i < length occ → id ≡ get_or occ i id → AreFree s by id → Collecting s by occ i old now → Collecting s by occ (i + 1) old now
+collecting_skip s by occ i id old now in' read apart h = record {
   kept = h.kept;
-  upto = λ m lt le. elim (cases_lt m i) [
-    | inl less ↦ h.upto m less le
-    | inr ge ↦ (let e = at_read occ i id m in' read (let q : m ≡ i = omega arith in q) in absurd (let f : length (slot_lits (slot s (get_or occ m 0))) ≡ length (slot_lits (slot s id)) = ap (λ (z : ℕ). length (slot_lits (slot s z))) e in omega arith))
+  upto = λ m lt n. elim (cases_lt m i) [
+    | inl less ↦ h.upto m less n
+    | inr ge ↦ (let e = at_read occ i id m in' read (let q : m ≡ i = omega arith in q) in subst (λ (z : ℕ). AreFree s by z) (sym e) apart)
   ];
-  normal = λ m lt. elim (cases_lt m i) [ inl less ↦ h.normal m less | inr ge ↦ (let e = at_read occ i id m in' read (let q : m ≡ i = omega arith in q) in subst (λ (z : ℕ). IsNormal (slot_lits (slot s z))) (sym e) normal) ];
   once = λ k. (let b = times_take occ i id k in' read in let c = h.once k in omega arith);
 }
 
-pub collected : (s : List (Option Stored)) (l : ℕ) (occ : List ℕ) (least i : ℕ) (old new : List ℕ) → HasEachOnce (holds_at s l) occ → length occ ≤ i → Collecting s occ least i old new → Collects s l least old new
-collected s l occ least i old new each past h = record {
+pub collected : (s : List (Option Stored)) (by l : ℕ) (occ : List ℕ) (i : ℕ) (old new : List ℕ) → HasEachOnce (holds_at s l) occ → length occ ≤ i → Collecting s by occ i old new → Collects s by l old new
+collected s by l occ i old new each past h = record {
   kept = h.kept;
-  whole = λ k y le. (let p = place_of (holds_at s l) occ k each y in let lt = p.1 in subst (λ (z : ℕ). has new z ≡ true) p.2 (h.upto p.0 (omega arith) (subst (λ (z : ℕ). least ≤ length (slot_lits (slot s z))) (sym p.2) le)));
-  normal = λ k y. (let p = place_of (holds_at s l) occ k each y in let lt = p.1 in subst (λ (z : ℕ). IsNormal (slot_lits (slot s z))) p.2 (h.normal p.0 (omega arith)));
+  whole = λ k y n. (let p = place_of (holds_at s l) occ k each y in let lt = p.1 in subst (λ (z : ℕ). AreFree s by z) p.2 (h.upto p.0 (omega arith) (subst (λ (z : ℕ). has new z ≡ false) (sym p.2) n)));
   once = λ k.
       let a = h.once k in
       let b : times (take i occ) k ≡ times occ k = ap (λ (z : List ℕ). times z k) (take_all i occ past) in
@@ -128,11 +136,22 @@ collected s l occ least i old new each past h = record {
       omega arith;
 }
 
-holds : (s : List (Option Stored)) (l id : ℕ) → is_firm (slot s id) ≡ true → has (slot_lits (slot s id)) l ≡ true → holds_at s l id ≡ true
-holds s l id f h = rw (f, h) refl
+-- what is listed holds the literal, and is firm
+pub firm_listed : (s : List (Option Stored)) (l : ℕ) (occ : List ℕ) (i id : ℕ) → HasEachOnce (holds_at s l) occ → i < length occ → id ≡ get_or occ i id → is_firm (slot s id) ≡ true
+firm_listed s l occ i id each in' read =
+    let y = listed (holds_at s l) occ i each in' in
+    let z : holds_at s l id ≡ true = subst (λ (z : ℕ). holds_at s l z ≡ true) (sym (read ∙ get_or_default occ i id 0 in')) y in
+    (and_parts (is_firm (slot s id)) (has (slot_lits (slot s id)) l) z).0
+
+-- what signatures and lengths tell
+pub apart_signed : (s : List (Option Stored)) (by id a b : ℕ) → IsSignature (slot_lits (slot s by)) a → IsSignature (slot_lits (slot s id)) b → eqb (bit_and a b) a ≡ false → AreFree s by id
+apart_signed s by id a b h g n = tells (slot_lits (slot s by)) (slot_lits (slot s id)) a b h g n
+
+pub apart_longer : (s : List (Option Stored)) (by id : ℕ) (c d : List ℕ) → c ≡ slot_lits (slot s by) → d ≡ slot_lits (slot s id) → IsNormal c → IsNormal d → nat_lt (length d) (length c) ≡ true → AreFree s by id
+apart_longer s by id c d e f n m y = let lt = ltb-true (length d) (length c) y in rw (← e, ← f) (free_shorter c d n m lt)
 
 -- both together
-pub candidates_of : (s : List (Option Stored)) (by lit : ℕ) (mid ids : List ℕ) → IsNormal (slot_lits (slot s by)) → has (slot_lits (slot s by)) lit ≡ true → Collects s lit (length (slot_lits (slot s by))) [] mid → Collects s (neg lit) (length (slot_lits (slot s by))) mid ids → AreCandidates s by ids
+pub candidates_of : (s : List (Option Stored)) (by lit : ℕ) (mid ids : List ℕ) → ((k : ℕ) → IsNormal (slot_lits (slot s k))) → has (slot_lits (slot s by)) lit ≡ true → Collects s by lit [] mid → Collects s by (neg lit) mid ids → AreCandidates s by ids
 candidates_of s by lit mid ids normal h a b = record {
   few = at_most_once s ids (λ k.
       let x = a.once k in
@@ -141,7 +160,7 @@ candidates_of s by lit mid ids normal h a b = record {
       elim (cases_Bool (holds_at s lit k)) [
         | inl p ↦
             (let q = and_parts (is_firm (slot s k)) (has (slot_lits (slot s k)) lit) p in
-            let no' : holds_at s (neg lit) k ≡ false = false_from_ne_true (holds_at s (neg lit) k) (λ r. not_both (slot_lits (slot s k)) lit (a.normal k p) q.1 (and_parts (is_firm (slot s k)) (has (slot_lits (slot s k)) (neg lit)) r).1) in
+            let no' : holds_at s (neg lit) k ≡ false = false_from_ne_true (holds_at s (neg lit) k) (λ r. not_both (slot_lits (slot s k)) lit (normal k) q.1 (and_parts (is_firm (slot s k)) (has (slot_lits (slot s k)) (neg lit)) r).1) in
             let e : one_if (holds_at s lit k) ≡ 1 = ap one_if p in
             let f : one_if (holds_at s (neg lit) k) ≡ 0 = ap one_if no' in
             let g : one_if (is_firm (slot s k)) ≡ 1 = ap one_if q.0 in
@@ -155,13 +174,11 @@ candidates_of s by lit mid ids normal h a b = record {
       ]);
   whole = λ j f n.
       elim (cases_Bool (has (slot_lits (slot s j)) lit)) [
-        | inl y ↦ free_shorter (slot_lits (slot s by)) (slot_lits (slot s j)) normal (a.normal j (holds s lit j f y)) (short j (λ le. b.kept j (a.whole j (holds s lit j f y) le)) n)
+        | inl y ↦ a.whole j (holds s lit j f y) (b.kept j n)
         | inr y ↦
             elim (cases_Bool (has (slot_lits (slot s j)) (neg lit))) [
-              | inl z ↦ free_shorter (slot_lits (slot s by)) (slot_lits (slot s j)) normal (b.normal j (holds s (neg lit) j f z)) (short j (λ le. b.whole j (holds s (neg lit) j f z) le) n)
+              | inl z ↦ b.whole j (holds s (neg lit) j f z) n
               | inr z ↦ free_missing (slot_lits (slot s by)) (slot_lits (slot s j)) lit h y z
             ]
       ];
-} where
-  short : (j : ℕ) → (length (slot_lits (slot s by)) ≤ length (slot_lits (slot s j)) → has ids j ≡ true) → has ids j ≡ false → length (slot_lits (slot s j)) < length (slot_lits (slot s by))
-  short j h n = elim (cases_lt (length (slot_lits (slot s j))) (length (slot_lits (slot s by)))) [ inl lt ↦ lt | inr ge ↦ absurd (false≢true (sym n ∙ h ge)) ]
+}

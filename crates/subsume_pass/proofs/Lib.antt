@@ -5,7 +5,6 @@ pub mod Comparing
 pub mod Passing
 pub mod Seeking
 pub mod Setting
-pub mod Signing
 pub mod Sourcing
 pub mod Trying
 pub mod Waiting

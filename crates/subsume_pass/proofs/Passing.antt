@@ -1,7 +1,7 @@
 -- What holds between two turns.
-use Rattle.std.proofs.Common.{◌≡◌, ◌≢◌, ℕ, suc, zero, ◌+◌, ◌-◌, ◌*◌, ◌/◌, ◌<◌, ◌≤◌, Bool, true, false, List, [], length, Option, inl, inr, refl, sym, ap, ◌∙◌, arith}
+use Rattle.std.proofs.Common.{◌≡◌, ◌≢◌, ℕ, suc, zero, ◌+◌, ◌-◌, ◌*◌, ◌/◌, ◌<◌, ◌≤◌, Bool, true, false, List, [], length, Option, inl, inr, refl, sym, ap, ◌∙◌, arith, leb}
 use Rattle.std.proofs.Math.Nat.{mul-le-mul_left, mul-le-mul_right, mul-add, mul_assoc, mul-one, mul-div-le}
-use Rattle.std.proofs.lemmas.Bool.{false≢true, cases_lt, cases_Bool}
+use Rattle.std.proofs.lemmas.Bool.{leb-true, false≢true, cases_lt, cases_Bool}
 use Rattle.sat_terms.specs.Literal.{has}
 use Rattle.clause_store.specs.Stored.{Stored, slot, slot_lits, is_firm}
 use Rattle.clause_store.specs.Listing.{HasEachOnce, firm_at}
@@ -128,8 +128,9 @@ pub refuted : (t : State) → has_empty (firm t.store) ≡ true → IsFixpoint t
 refuted t h = record { reduced = λ n. absurd (false≢true (sym n ∙ h)); idle = λ n. absurd (false≢true (sym n ∙ h)) }
 
 -- how many wait
-pub few_by_length : (s : State) (ids due fresh : List ℕ) → HasEachOnce (firm_at s.store) ids → due ≡ s.waiting.due → fresh ≡ s.waiting.fresh → length due + length fresh ≤ length ids → waits s.waiting ≤ length (firm s.store)
-few_by_length s ids due fresh each d f le =
+pub few_by_length : (s : State) (ids due fresh : List ℕ) → HasEachOnce (firm_at s.store) ids → due ≡ s.waiting.due → fresh ≡ s.waiting.fresh → length due ≤ length ids → leb (length fresh) (length ids - length due) ≡ true → waits s.waiting ≤ length (firm s.store)
+few_by_length s ids due fresh each d f in' y =
+    let le = leb-true (length fresh) (length ids - length due) y in
     let a = different_most s.waiting.due in
     let b = different_most s.waiting.fresh in
     let e = count_ids s.store ids each in
@@ -149,4 +150,4 @@ pub for_any : (frozen : ℕ → Bool) (s t : State) → Ruled always s t → Rul
 for_any frozen s t h = ruled_weaken always frozen s t (λ v e. absurd (false≢true (sym e))) h
 
 pub ruled_marked : (frozen : ℕ → Bool) (s t u : State) → SameButMarks s t → Ruled always t u → Ruled frozen s u
-ruled_marked frozen s t u same h = for_any frozen s u (ruled_trans always s t u (more s s t none (unmarked same)) h)
+ruled_marked frozen s t u same h = for_any frozen s u (ruled_trans always s t u (more s t none (unmarked same)) h)

@@ -10,11 +10,11 @@ use Rattle.clause_store.specs.Stored.{Stored, slot, slot_lits, is_firm}
 use Rattle.clause_store.specs.Listing.{times, HasEachOnce, holds_at}
 use Rattle.firm_terms.specs.Firm.{firm}
 use Rattle.firm_terms.specs.Subsuming.{IsFree}
-use Rattle.subsume_pass.specs.Choosing.{begins, Gathers, AreSources}
+use Rattle.subsume_pass.specs.Choosing.{AreFree, begins, Gathers, AreSources}
 use Rattle.subsume_pass.proofs.Clauses.{place}
 use Rattle.subsume_pass.proofs.Comparing.{free_missing}
 use Rattle.firm_terms.proofs.Counting.{one_if, place_of}
-use Rattle.subsume_pass.proofs.Collecting.{at_most_once, times_push, times_take}
+use Rattle.subsume_pass.proofs.Collecting.{at_most_once, times_push, times_take, at_read, before_push, holds}
 
 -- the first literal
 begins_has : (c : List ℕ) (l : ℕ) → begins c l ≡ true → has c l ≡ true
@@ -25,55 +25,51 @@ first_of : (c : List ℕ) → 0 < length c → (l : ℕ) × (begins c l ≡ true
 first_of [] h = absurd (omega arith)
 first_of (x ∷ c) h = (x, eq-eqb x x refl)
 
-pub record Gathering (s : List (Option Stored)) (l : ℕ) (occ : List ℕ) (k : ℕ) (old new : List ℕ) : Type 0 where
-  pub kept : (i : ℕ) → has old i ≡ true → has new i ≡ true
-  pub upto : (m : ℕ) → m < k → begins (slot_lits (slot s (get_or occ m 0))) l ≡ true → has new (get_or occ m 0) ≡ true
+pub record Gathering (s : List (Option Stored)) (id l : ℕ) (occ : List ℕ) (k : ℕ) (old new : List ℕ) : Type 0 where
+  pub kept : (i : ℕ) → has new i ≡ false → has old i ≡ false
+  pub upto : (m : ℕ) → m < k → begins (slot_lits (slot s (get_or occ m 0))) l ≡ true → has new (get_or occ m 0) ≡ false → AreFree s (get_or occ m 0) id
   pub once : (i : ℕ) → begins (slot_lits (slot s i)) l ≡ true → times new i ≤ times old i + times (take k occ) i
   pub none : (i : ℕ) → begins (slot_lits (slot s i)) l ≡ false → times new i ≤ times old i
 
-pub gathering_none : (s : List (Option Stored)) (l : ℕ) (occ old : List ℕ) → Gathering s l occ 0 old old
-gathering_none s l occ old = record { kept = λ i h. h; upto = λ m lt. absurd (omega arith); once = λ i b. omega arith; none = λ i b. omega arith }
+pub gathering_none : (s : List (Option Stored)) (id l : ℕ) (occ old : List ℕ) → Gathering s id l occ 0 old old
+gathering_none s id l occ old = record { kept = λ i h. h; upto = λ m lt. absurd (omega arith); once = λ i b. omega arith; none = λ i b. omega arith }
 
-pub gathering_push : (s : List (Option Stored)) (l : ℕ) (occ : List ℕ) (k id : ℕ) (old now new : List ℕ) → k < length occ → id ≡ get_or occ k id → Gathering s l occ k old now → new ≡ now ++ id ∷ [] → begins (slot_lits (slot s id)) l ≡ true → Gathering s l occ (k + 1) old new
-gathering_push s l occ k id old now new in' read h pushed yes' = rw pushed (record {
-  once = λ i b. (let a = times_push now id i in let e = times_take occ k id i in' read in let c = h.once i b in omega arith);
+pub gathering_push : (s : List (Option Stored)) (id l : ℕ) (occ : List ℕ) (k by : ℕ) (old now new : List ℕ) → k < length occ → by ≡ get_or occ k by → Gathering s id l occ k old now → new ≡ now ++ by ∷ [] → begins (slot_lits (slot s by)) l ≡ true → Gathering s id l occ (k + 1) old new
+gathering_push s id l occ k by old now new in' read h pushed yes' = rw pushed (record {
+  once = λ i b. (let a = times_push now by i in let e = times_take occ k by i in' read in let c = h.once i b in omega arith);
   none = λ i b.
-      let a = times_push now id i in
+      let a = times_push now by i in
       let c = h.none i b in
-      let z : one_if (eqb id i) ≡ 0 = rw (false_from_ne_true (eqb id i) (λ y. false≢true (sym b ∙ ap (λ (w : ℕ). begins (slot_lits (slot s w)) l) (sym (eqb-true id i y)) ∙ yes'))) refl in
+      let z : one_if (eqb by i) ≡ 0 = rw (false_from_ne_true (eqb by i) (λ y. false≢true (sym b ∙ ap (λ (w : ℕ). begins (slot_lits (slot s w)) l) (sym (eqb-true by i y)) ∙ yes'))) refl in
       omega arith;
-  kept = λ i y. has-append_left now (id ∷ []) i (h.kept i y);
-  upto = λ m lt b. elim (cases_lt m k) [
-    | inl less ↦ has-append_left now (id ∷ []) (get_or occ m 0) (h.upto m less b)
-    | inr ge ↦
-        (let e : id ≡ get_or occ m 0 = read ∙ get_or_default occ k id 0 in' ∙ ap (λ (z : ℕ). get_or occ z 0) (let q : k ≡ m = omega arith in q) in
-        has-append_right now (id ∷ []) (get_or occ m 0) (or_left (eqb id (get_or occ m 0)) false (eq-eqb id (get_or occ m 0) e)))
+  kept = λ i n. h.kept i (before_push now by i n).0;
+  upto = λ m lt b n. elim (cases_lt m k) [
+    | inl less ↦ h.upto m less b (before_push now by (get_or occ m 0) n).0
+    | inr ge ↦ absurd ((before_push now by (get_or occ m 0) n).1 (at_read occ k by m in' read (let q : m ≡ k = omega arith in q)))
   ];
 })
 
-pub gathering_skip : (s : List (Option Stored)) (l : ℕ) (occ : List ℕ) (k id : ℕ) (old now : List ℕ) → k < length occ → id ≡ get_or occ k id → begins (slot_lits (slot s id)) l ≡ false → Gathering s l occ k old now → Gathering s l occ (k + 1) old now
-gathering_skip s l occ k id old now in' read no' h = record {
-  once = λ i b. (let e = times_take occ k id i in' read in let c = h.once i b in omega arith);
+-- one that is free, or begins otherwise
+pub gathering_skip : (s : List (Option Stored)) (id l : ℕ) (occ : List ℕ) (k by : ℕ) (old now : List ℕ) → k < length occ → by ≡ get_or occ k by → (begins (slot_lits (slot s by)) l ≡ true → AreFree s by id) → Gathering s id l occ k old now → Gathering s id l occ (k + 1) old now
+gathering_skip s id l occ k by old now in' read apart h = record {
+  once = λ i b. (let e = times_take occ k by i in' read in let c = h.once i b in omega arith);
   none = h.none;
   kept = h.kept;
-  upto = λ m lt b. elim (cases_lt m k) [
-    | inl less ↦ h.upto m less b
+  upto = λ m lt b n. elim (cases_lt m k) [
+    | inl less ↦ h.upto m less b n
     | inr ge ↦
-        (let e : get_or occ m 0 ≡ id = ap (λ (z : ℕ). get_or occ z 0) (let q : m ≡ k = omega arith in q) ∙ sym (read ∙ get_or_default occ k id 0 in') in
-        absurd (false≢true (sym no' ∙ ap (λ (z : ℕ). begins (slot_lits (slot s z)) l) (sym e) ∙ b)))
+        (let e = at_read occ k by m in' read (let q : m ≡ k = omega arith in q) in
+        subst (λ (z : ℕ). AreFree s z id) (sym e) (apart (subst (λ (z : ℕ). begins (slot_lits (slot s z)) l ≡ true) e b)))
   ];
 }
 
-holds : (s : List (Option Stored)) (l id : ℕ) → is_firm (slot s id) ≡ true → has (slot_lits (slot s id)) l ≡ true → holds_at s l id ≡ true
-holds s l id f h = rw (f, h) refl
-
-pub gathered : (s : List (Option Stored)) (l : ℕ) (occ : List ℕ) (k : ℕ) (old new : List ℕ) → HasEachOnce (holds_at s l) occ → length occ ≤ k → Gathering s l occ k old new → Gathers s l old new
-gathered s l occ k old new each past h = record {
+pub gathered : (s : List (Option Stored)) (id l : ℕ) (occ : List ℕ) (k : ℕ) (old new : List ℕ) → HasEachOnce (holds_at s l) occ → length occ ≤ k → Gathering s id l occ k old new → Gathers s id l old new
+gathered s id l occ k old new each past h = record {
   kept = h.kept;
-  whole = λ i f b.
+  whole = λ i f b n.
       let p = place_of (holds_at s l) occ i each (holds s l i f (begins_has (slot_lits (slot s i)) l b)) in
       let lt = p.1 in
-      subst (λ (z : ℕ). has new z ≡ true) p.2 (h.upto p.0 (omega arith) (subst (λ (z : ℕ). begins (slot_lits (slot s z)) l ≡ true) (sym p.2) b));
+      subst (λ (z : ℕ). AreFree s z id) p.2 (h.upto p.0 (omega arith) (subst (λ (z : ℕ). begins (slot_lits (slot s z)) l ≡ true) (sym p.2) b) (subst (λ (z : ℕ). has new z ≡ false) (sym p.2) n));
   once = λ i. elim (cases_Bool (begins (slot_lits (slot s i)) l)) [
     | inr n ↦ (let a = h.none i n in omega arith)
     | inl b ↦
@@ -94,13 +90,13 @@ gathered s l occ k old new each past h = record {
 abbrev pub Begins : List (Option Stored) → List ℕ → ℕ → ℕ → Type 0
 Begins s c m i = (begins (slot_lits (slot s i)) (get_or c m 0) ≡ true) ⊎ (begins (slot_lits (slot s i)) (neg (get_or c m 0)) ≡ true)
 
-pub record Sourcing (s : List (Option Stored)) (c : List ℕ) (k : ℕ) (ids : List ℕ) : Type 0 where
-  pub upto : (m i : ℕ) → m < k → is_firm (slot s i) ≡ true → Begins s c m i → has ids i ≡ true
+pub record Sourcing (s : List (Option Stored)) (id : ℕ) (c : List ℕ) (k : ℕ) (ids : List ℕ) : Type 0 where
+  pub upto : (m i : ℕ) → m < k → is_firm (slot s i) ≡ true → Begins s c m i → has ids i ≡ false → AreFree s i id
   pub unseen : (i : ℕ) → ((m : ℕ) → m < k → Begins s c m i → ⊥) → times ids i ≡ 0
   pub once : (i : ℕ) → times ids i ≤ one_if (is_firm (slot s i))
 
-pub sourcing_none : (s : List (Option Stored)) (c ids : List ℕ) → ids ≡ [] → Sourcing s c 0 ids
-sourcing_none s c ids nil = rw nil (record { upto = λ m i lt. absurd (omega arith); unseen = λ i h. refl; once = λ i. omega arith })
+pub sourcing_none : (s : List (Option Stored)) (id : ℕ) (c ids : List ℕ) → ids ≡ [] → Sourcing s id c 0 ids
+sourcing_none s id c ids nil = rw nil (record { upto = λ m i lt. absurd (omega arith); unseen = λ i h. refl; once = λ i. omega arith })
 
 one_first : (d : List ℕ) (a b : ℕ) → begins d a ≡ true → begins d b ≡ true → a ≡ b
 one_first [] a b h g = absurd (false≢true h)
@@ -120,17 +116,17 @@ share_none x b e = elim (cases_Bool (is_firm x)) [ inl f ↦ rw (f, e) refl | in
 share_le : (x : Option Stored) (b : Bool) → one_if (is_firm x && b) ≤ one_if (is_firm x)
 share_le x b = elim (cases_Bool (is_firm x)) [ inl f ↦ elim (cases_Bool b) [ inl y ↦ rw (f, y) (omega arith) | inr n ↦ rw (f, n) (omega arith) ] | inr f ↦ rw f (omega arith) ]
 
-pub sourcing_more : (s : List (Option Stored)) (c : List ℕ) (k l : ℕ) (old mid new : List ℕ) → IsNormal c → k < length c → l ≡ get_or c k l → Sourcing s c k old → Gathers s l old mid → Gathers s (neg l) mid new → Sourcing s c (k + 1) new
-sourcing_more s c k l old mid new normal in' read h a b =
+pub sourcing_more : (s : List (Option Stored)) (id : ℕ) (c : List ℕ) (k l : ℕ) (old mid new : List ℕ) → IsNormal c → k < length c → l ≡ get_or c k l → Sourcing s id c k old → Gathers s id l old mid → Gathers s id (neg l) mid new → Sourcing s id c (k + 1) new
+sourcing_more s id c k l old mid new normal in' read h a b =
     let at0 : l ≡ get_or c k 0 = read ∙ get_or_default c k l 0 in' in
     record {
-      upto = λ m i lt f y. elim (cases_lt m k) [
-        | inl less ↦ b.kept i (a.kept i (h.upto m i less f y))
+      upto = λ m i lt f y n. elim (cases_lt m k) [
+        | inl less ↦ h.upto m i less f y (a.kept i (b.kept i n))
         | inr ge ↦
             (let e : get_or c m 0 ≡ l = ap (λ (z : ℕ). get_or c z 0) (let q : m ≡ k = omega arith in q) ∙ sym at0 in
             elim y [
-              | inl p ↦ b.kept i (a.whole i f (subst (λ (z : ℕ). begins (slot_lits (slot s i)) z ≡ true) e p))
-              | inr p ↦ b.whole i f (subst (λ (z : ℕ). begins (slot_lits (slot s i)) (neg z) ≡ true) e p)
+              | inl p ↦ a.whole i f (subst (λ (z : ℕ). begins (slot_lits (slot s i)) z ≡ true) e p) (b.kept i n)
+              | inr p ↦ b.whole i f (subst (λ (z : ℕ). begins (slot_lits (slot s i)) (neg z) ≡ true) e p) n
             ])
       ];
       unseen = λ i none'.
@@ -161,19 +157,22 @@ sourcing_more s c k l old mid new normal in' read h a b =
           ];
     }
 
-pub sources_of : (s : List (Option Stored)) (id : ℕ) (c : List ℕ) (k : ℕ) (ids : List ℕ) → c ≡ slot_lits (slot s id) → length c ≤ k → Sourcing s c k ids → AreSources s id ids
+pub sources_of : (s : List (Option Stored)) (id : ℕ) (c : List ℕ) (k : ℕ) (ids : List ℕ) → c ≡ slot_lits (slot s id) → length c ≤ k → Sourcing s id c k ids → AreSources s id ids
 sources_of s id c k ids is past h = record {
   few = at_most_once s ids h.once;
-  whole = λ i f some n.
-      let l = first_of (slot_lits (slot s i)) some in
-      let no' : (x : ℕ) → (x ≡ l.0) ⊎ (neg x ≡ l.0) → has c x ≡ false = λ x y.
-      false_from_ne_true (has c x) (λ z.
-      let p = place c x z in
-      let lt = p.1 in
-      false≢true (sym n ∙ h.upto p.0 i (omega arith) f (elim y [
-        | inl e ↦ inl (subst (λ (w : ℕ). begins (slot_lits (slot s i)) w ≡ true) (sym (p.2 ∙ e)) l.1)
-        | inr e ↦ inr (subst (λ (w : ℕ). begins (slot_lits (slot s i)) w ≡ true) (sym (ap neg p.2 ∙ e)) l.1)
-      ]))) in
-      free_missing (slot_lits (slot s i)) (slot_lits (slot s id)) l.0 (begins_has (slot_lits (slot s i)) l.0 l.1) (subst (λ (z : List ℕ). has z l.0 ≡ false) is (no' l.0 (inl refl))) (subst (λ (z : List ℕ). has z (neg l.0) ≡ false) is (no' (neg l.0) (inr (neg-neg l.0))));
-}
-
+  whole = λ i f some n. begin_of i f n (first_of (slot_lits (slot s i)) some);
+} where
+  begin_of : (i : ℕ) → is_firm (slot s i) ≡ true → has ids i ≡ false → (l : ℕ) × (begins (slot_lits (slot s i)) l ≡ true) → AreFree s i id
+  begin_of i f n l =
+      elim (cases_Bool (has c l.0)) [
+        | inl y ↦ (let p = place c l.0 y in let lt = p.1 in h.upto p.0 i (omega arith) f (inl (subst (λ (w : ℕ). begins (slot_lits (slot s i)) w ≡ true) (sym p.2) l.1)) n)
+        | inr y ↦
+            elim (cases_Bool (has c (neg l.0))) [
+              | inl z ↦
+                  (let p = place c (neg l.0) z in
+                  let lt = p.1 in
+                  let e : neg (get_or c p.0 0) ≡ l.0 = ap neg p.2 ∙ neg-neg l.0 in
+                  h.upto p.0 i (omega arith) f (inr (subst (λ (w : ℕ). begins (slot_lits (slot s i)) w ≡ true) (sym e) l.1)) n)
+              | inr z ↦ free_missing (slot_lits (slot s i)) (slot_lits (slot s id)) l.0 (begins_has (slot_lits (slot s i)) l.0 l.1) (subst (λ (w : List ℕ). has w l.0 ≡ false) is y) (subst (λ (w : List ℕ). has w (neg l.0) ≡ false) is z)
+            ]
+      ]

@@ -2,31 +2,33 @@
 //!
 //! Most pairs of clauses have nothing to do with one another, and a comparison of all pairs would take the square of their number. A clause
 //! that lies within another one, or shortens it, has each of its variables there: so it is enough to look at the clauses that hold one
-//! variable of it, in either sign, and that one may be chosen: the rarest, whose lists of occurrences are the shortest (Eén and Biere 2005).
-//! And the other one must be no shorter, for it has all these variables.
+//! variable of it, in either sign, and that one may be chosen: the rarest, whose lists of occurrences are the shortest (Eén and Biere,
+//! SAT 2005).
 //!
 //! The other way round, what lies within a clause or shortens it begins with a variable of that clause. So the sources of a clause are the
 //! clauses in the lists of its literals and their negations that begin with that very literal: each clause begins with one literal alone,
 //! so none is found twice, though it may share many variables (as the one-watched-literal scheme of Zhang, "On subsumption removal and
 //! on-the-fly CNF simplification", SAT 2005).
 //!
+//! Of these most are told apart without their literals: by their signatures, which the kernel keeps, and by their lengths, since a clause
+//! with each variable of another one is no shorter than that.
+//!
 //! That none comes twice matters for the count of steps: a list of firm clauses without repetition is no longer than there are firm clauses.
 //! For the rarest variable it holds since a normal clause has not both signs of it.
 //!
 //! The ids are copied from the store's lists, which change while the clauses are compared; an id is looked up again when its turn comes.
 //!
-//! Left out: signatures (src/signature.rt), which would be one more test in `collect` and `gather` beside the length. They want a place
-//! beside each clause in the store.
-ghost use Rattle.std.specs.Prelude.{◌≡◌, ◌<◌, length, true, IfOk, OnOk};
+//! Left out: an order among the candidates, short ones first.
+ghost use Rattle.std.specs.Prelude.{◌≡◌, ◌<◌, ◌==◌, length, true, bit_and, IfOk, OnOk};
 ghost use Rattle.sat_terms.specs.Literal.{has};
 ghost use Rattle.clause_store.specs.Stored.{slot, slot_lits, is_firm};
-ghost use Rattle.subsume_pass.specs.Choosing.{begins, Collects, AreCandidates, Gathers, AreSources};
+ghost use Rattle.subsume_pass.specs.Choosing.{AreFree, begins, Collects, AreCandidates, Gathers, AreSources};
 
 use clause_store::store::Store;
+use rule_kernel::kernel::Kernel;
 use sat_model::lists::ClauseId;
 use sat_model::literal::Lit;
 use sat_model::memory::Memory;
-use std::alloc::Global;
 
 // How many firm clauses hold a literal or its negation.
 fn holders(store: &Store, lit: Lit) -> usize {
@@ -53,30 +55,56 @@ fn rarest(store: &Store, lits: &[Lit]) -> Lit
     best
 }
 
-// Adds the firm clauses that hold a literal and have so many literals at least.
-fn collect(store: &Store, lit: Lit, least: usize, ids: &mut Vec<ClauseId>) -> Result<(), Memory>
-    ensures { OnOk result (Collects store.now lit least ids.old.items ids.new.items) }
+// Whether a signature has no bit that another one lacks.
+fn may_fit(a: u64, b: u64) -> bool
+    ensures { result ≡ (bit_and a b == a) }
 {
-    for id in store.occ(lit) {
-        let count = store.get(*id).len();
-        if count >= least {
-            ids.push(*id)?;
+    a & b == a
+}
+
+// Whether the signatures or the lengths of two firm clauses tell that the first neither lies within the second nor shortens it.
+fn are_apart(kernel: &Kernel, by: ClauseId, id: ClauseId) -> bool
+    requires by { is_firm (slot kernel.now.store by) ≡ true }
+    requires id { is_firm (slot kernel.now.store id) ≡ true }
+    ensures { result ≡ true → AreFree kernel.now.store by id }
+{
+    if !may_fit(kernel.signature(by), kernel.signature(id)) {
+        return true;
+    }
+    let len = kernel.store().get(id).len();
+    len < kernel.store().get(by).len()
+}
+
+// Adds the firm clauses that hold a literal, but for those that are told apart from a clause.
+fn collect(
+    kernel: &Kernel,
+    by: ClauseId,
+    lit: Lit,
+    ids: &mut Vec<ClauseId>,
+) -> Result<(), Memory>
+    requires { is_firm (slot kernel.now.store by) ≡ true }
+    ensures { OnOk result (Collects kernel.now.store by lit ids.old.items ids.new.items) }
+{
+    for id in kernel.store().occ(lit) {
+        if are_apart(kernel, by, *id) {
+            continue;
         }
+        ids.push(*id)?;
     }
     Ok(())
 }
 
-/// The firm clauses that hold a variable of a clause, the rarest one, and are no shorter: the clause is free of all others.
-pub(crate) fn candidates(alloc: Global, store: &Store, by: ClauseId) -> Result<Vec<ClauseId>, Memory>
-    requires by { is_firm (slot store.now by) ≡ true }
-    requires some { 0 < length (slot_lits (slot store.now by)) }
-    ensures { IfOk result (λ ids. AreCandidates store.now by ids.items) }
+/// Firm clauses that hold a variable of a clause, the rarest one: the clause is free of all others.
+pub(crate) fn candidates(kernel: &Kernel, by: ClauseId) -> Result<Vec<ClauseId>, Memory>
+    requires by { is_firm (slot kernel.now.store by) ≡ true }
+    requires some { 0 < length (slot_lits (slot kernel.now.store by)) }
+    ensures { IfOk result (λ ids. AreCandidates kernel.now.store by ids.items) }
 {
-    let lits = store.get(by);
-    let lit = rarest(store, lits);
-    let mut ids = Vec::new(alloc);
-    collect(store, lit, lits.len(), &mut ids)?;
-    collect(store, lit.neg(), lits.len(), &mut ids)?;
+    kernel.store().law_normal();
+    let lit = rarest(kernel.store(), kernel.store().get(by));
+    let mut ids = Vec::new(kernel.alloc());
+    collect(kernel, by, lit, &mut ids)?;
+    collect(kernel, by, lit.neg(), &mut ids)?;
     Ok(ids)
 }
 
@@ -90,27 +118,36 @@ fn begins_with(lits: &[Lit], lit: Lit) -> bool
     lits[0] == lit
 }
 
-// Adds the firm clauses that begin with a literal.
-fn gather(store: &Store, lit: Lit, ids: &mut Vec<ClauseId>) -> Result<(), Memory>
-    ensures { OnOk result (Gathers store.now lit ids.old.items ids.new.items) }
+// Adds the firm clauses that begin with a literal, but for those that are told apart from a clause.
+fn gather(
+    kernel: &Kernel,
+    id: ClauseId,
+    lit: Lit,
+    ids: &mut Vec<ClauseId>,
+) -> Result<(), Memory>
+    requires { is_firm (slot kernel.now.store id) ≡ true }
+    ensures { OnOk result (Gathers kernel.now.store id lit ids.old.items ids.new.items) }
 {
-    for id in store.occ(lit) {
-        if begins_with(store.get(*id), lit) {
-            ids.push(*id)?;
+    for by in kernel.store().occ(lit) {
+        if are_apart(kernel, *by, id) {
+            continue;
+        }
+        if begins_with(kernel.store().get(*by), lit) {
+            ids.push(*by)?;
         }
     }
     Ok(())
 }
 
-/// The firm clauses that begin with a variable of a clause: all others are free of it.
-pub(crate) fn sources(alloc: Global, store: &Store, id: ClauseId) -> Result<Vec<ClauseId>, Memory>
-    requires { is_firm (slot store.now id) ≡ true }
-    ensures { IfOk result (λ ids. AreSources store.now id ids.items) }
+/// Firm clauses that begin with a variable of a clause: all others are free of it.
+pub(crate) fn sources(kernel: &Kernel, id: ClauseId) -> Result<Vec<ClauseId>, Memory>
+    requires { is_firm (slot kernel.now.store id) ≡ true }
+    ensures { IfOk result (λ ids. AreSources kernel.now.store id ids.items) }
 {
-    let mut ids = Vec::new(alloc);
-    for lit in store.get(id) {
-        gather(store, *lit, &mut ids)?;
-        gather(store, lit.neg(), &mut ids)?;
+    let mut ids = Vec::new(kernel.alloc());
+    for lit in kernel.store().get(id) {
+        gather(kernel, id, *lit, &mut ids)?;
+        gather(kernel, id, lit.neg(), &mut ids)?;
     }
     Ok(ids)
 }

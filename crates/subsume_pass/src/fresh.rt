@@ -78,7 +78,7 @@ pub(crate) fn turn_fresh(kernel: &mut Kernel, steps: &mut u64, limit: u64) -> Re
     kernel.law_promises();
     let fresh = kernel.fresh();
     let id = fresh[fresh.len() - 1];
-    let ids = sources(kernel.alloc(), kernel.store(), id)?;
+    let ids = sources(kernel, id)?;
     match seek_change(kernel, id, ids.as_slice(), steps, limit)? {
         Fate::Free => {
             kernel.settle_fresh(id);

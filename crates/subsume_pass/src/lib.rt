@@ -11,5 +11,4 @@ mod change;
 mod compare;
 mod fresh;
 pub mod pass;
-pub mod signature;
 mod turn;

@@ -134,7 +134,7 @@ fn try_on_all(kernel: &mut Kernel, by: ClauseId, steps: &mut u64, limit: u64) ->
     if count == 0 {
         return Ok(Turn::Refuted);
     }
-    let ids = candidates(kernel.alloc(), kernel.store(), by)?;
+    let ids = candidates(kernel, by)?;
     let turn = meet_all(kernel, by, ids.as_slice(), steps, limit)?;
     Ok(turn)
 }
