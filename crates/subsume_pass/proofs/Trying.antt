@@ -107,7 +107,7 @@ free_of_next s t by id next fid nil p h other ne f some n =
     let f' : is_firm (slot s.store other) ≡ true = subst (λ (z : Option Stored). is_firm z ≡ true) e f in
     let some' : 0 < length (slot_lits (slot s.store other)) = subst (λ (z : Option Stored). 0 < length (slot_lits z)) e some in
     let n' : has s.waiting.due other ≡ false = false_from_ne_true (has s.waiting.due other) (λ y.
-        false≢true (sym n ∙ h.waits.due other ∙ kept_where (has s.waiting.due other || eqb next other) id other (λ z. gone (sym z)) (rw y refl))) in
+    false≢true (sym n ∙ h.waits.due other ∙ kept_where (has s.waiting.due other || eqb next other) id other (λ z. gone (sym z)) (rw y refl))) in
     let fr : has s.waiting.fresh id ≡ false = ap (λ (z : List ℕ). has z id) nil in
     let x = p.tried other id f' fid (λ z. gone (sym z)) some' n' fr in
     free_slots (slot t.store other) (slot t.store next) (slot s.store other) (slot t.store next) e refl
@@ -127,8 +127,8 @@ keeps_came s t u by id next ne fby nil h g =
     let f : u.waiting.fresh ≡ [] = nil_where_none u.waiting.fresh (λ k. g.fresh k ∙ ap (λ (z : Bool). z && not (eqb next k)) (w.fresh k) ∙ two_gone (has s.waiting.fresh k) (eqb next k) id k (ap (λ (z : List ℕ). has z k) nil)) in
     let a : different u.waiting.fresh ≡ 0 = ap different f in
     let d = different_more u.waiting.due s.waiting.due next (λ k y n.
-        let z = first_of (has s.waiting.due k || eqb next k) (not (eqb id k)) (sym (w.due k) ∙ ap (λ (v : List ℕ). has v k) (sym g.due) ∙ y) in
-        elim (or_cases (has s.waiting.due k) (eqb next k) z) [ inl i ↦ i | inr e ↦ absurd (n (sym (eqb-true next k e))) ]) in
+    let z = first_of (has s.waiting.due k || eqb next k) (not (eqb id k)) (sym (w.due k) ∙ ap (λ (v : List ℕ). has v k) (sym g.due) ∙ y) in
+    elim (or_cases (has s.waiting.due k) (eqb next k) z) [ inl i ↦ i | inr e ↦ absurd (n (sym (eqb-true next k e))) ]) in
     let si : size u.store ≡ size t.store = ap size same in
     record {
       kept = ap (λ (z : List (Option Stored)). slot z by) same ∙ h.others by ne (λ e. firm_none (slot s.store by) fby (ap (slot s.store) e ∙ h.unused));

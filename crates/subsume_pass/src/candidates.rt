@@ -13,8 +13,8 @@
 //! Of these most are told apart without their literals: by their signatures, which the kernel keeps, and by their lengths, since a clause
 //! with each variable of another one is no shorter than that.
 //!
-//! That none comes twice matters for the count of steps: a list of firm clauses without repetition is no longer than there are firm clauses.
-//! For the rarest variable it holds since a normal clause has not both signs of it.
+//! That none comes twice matters for the count of steps: a list of firm clauses without repetition is no longer than there are firm
+//! clauses. For the rarest variable it holds since a normal clause has not both signs of it.
 //!
 //! The ids are copied from the store's lists, which change while the clauses are compared; an id is looked up again when its turn comes.
 //!
@@ -76,12 +76,7 @@ fn are_apart(kernel: &Kernel, by: ClauseId, id: ClauseId) -> bool
 }
 
 // Adds the firm clauses that hold a literal, but for those that are told apart from a clause.
-fn collect(
-    kernel: &Kernel,
-    by: ClauseId,
-    lit: Lit,
-    ids: &mut Vec<ClauseId>,
-) -> Result<(), Memory>
+fn collect(kernel: &Kernel, by: ClauseId, lit: Lit, ids: &mut Vec<ClauseId>) -> Result<(), Memory>
     requires { is_firm (slot kernel.now.store by) ≡ true }
     ensures { OnOk result (Collects kernel.now.store by lit ids.old.items ids.new.items) }
 {
@@ -119,12 +114,7 @@ fn begins_with(lits: &[Lit], lit: Lit) -> bool
 }
 
 // Adds the firm clauses that begin with a literal, but for those that are told apart from a clause.
-fn gather(
-    kernel: &Kernel,
-    id: ClauseId,
-    lit: Lit,
-    ids: &mut Vec<ClauseId>,
-) -> Result<(), Memory>
+fn gather(kernel: &Kernel, id: ClauseId, lit: Lit, ids: &mut Vec<ClauseId>) -> Result<(), Memory>
     requires { is_firm (slot kernel.now.store id) ≡ true }
     ensures { OnOk result (Gathers kernel.now.store id lit ids.old.items ids.new.items) }
 {

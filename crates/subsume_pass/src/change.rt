@@ -7,7 +7,7 @@
 //!
 //! A clause that comes waits to be compared, in both ways, by the kernel itself, and one that goes waits no longer. What is known of
 //! the shorter clause beyond that, its callers know: they compare it, or take it off at once.
-ghost use Rattle.std.specs.Prelude.{◌≡◌, ◌≢◌, ◌<◌, ℕ, length, slice_index_or, true, IfOk, OnErr};
+ghost use Rattle.std.specs.Prelude.{◌≡◌, ◌≢◌, ◌<◌, ◌+◌, ◌^◌, ℕ, length, slice_index_or, true, IfOk, OnErr};
 ghost use Rattle.clause_store.specs.Stored.{slot, slot_lits, is_firm};
 ghost use Rattle.firm_terms.specs.Subsuming.{Resolves};
 ghost use Rattle.pass_terms.specs.Ruled.{Ruled};
@@ -49,15 +49,24 @@ fn shorten(kernel: &mut Kernel, by: ClauseId, id: ClauseId, at: usize) -> Result
     Ok(next)
 }
 
-/// Compares a firm clause with another one, and drops or shortens the other one where that follows. After `Memory` nothing changed.
-pub(crate) fn meet(kernel: &mut Kernel, by: ClauseId, id: ClauseId) -> Result<Change, Memory>
+/// Compares a firm clause with another one, and drops or shortens the other one where that follows. It is a step. After `Memory` nothing
+/// changed.
+pub(crate) fn meet(
+    kernel: &mut Kernel,
+    by: ClauseId,
+    id: ClauseId,
+    steps: &mut u64,
+) -> Result<Change, Memory>
     requires by { is_firm (slot kernel.old.store by) ≡ true }
     requires id { is_firm (slot kernel.old.store id) ≡ true }
     requires other { by ≢ id }
+    requires room { steps.old + 1 < 2 ^ 64 }
     ensures ruled { Ruled always kernel.old kernel.new }
     ensures changes { IfOk result (λ change. Changes kernel.old kernel.new by id change) }
+    ensures counted { steps.new ≡ steps.old + 1 }
     ensures err { OnErr result (kernel.new ≡ kernel.old) }
 {
+    *steps += 1;
     let fit = compare(kernel.store().get(by), kernel.store().get(id));
     match fit {
         Fit::Apart => Ok(Change::Kept),

@@ -6,9 +6,9 @@
 //! differ only in how many literals may be met negated: none, or one.
 //!
 //! Clauses are stored sorted by variable, and each variable stands once in a clause. So the walk goes through c once and, beside it,
-//! through d: for each literal of c the place in d moves on past all lower variables, and there stands the literal, its negation, or neither.
-//! Neither ends the walk, since a variable of c that stands not in d lets nothing follow. So does a second negation: resolution takes away
-//! one literal alone. The place never goes back, so the walk takes at most as many turns as both clauses have literals.
+//! through d: for each literal of c the place in d moves on past all lower variables, and there stands the literal, its negation, or
+//! neither. Neither ends the walk, since a variable of c that stands not in d lets nothing follow. So does a second negation: resolution
+//! takes away one literal alone. The place never goes back, so the walk takes at most as many turns as both clauses have literals.
 //!
 //! It is right because literals that were passed in d have lower variables than what is left of c: if a literal of c stands in d, it
 //! stands from the place on, and the first variable there that is not lower tells. What is answered is said by the definitions of the rule,

@@ -2,12 +2,11 @@
 //!
 //! A clause that came from outside may hold all of a clause that was there before, or be shortened by one, and those that were there were
 //! tried already. To try each of them anew would compare all clauses again after each addition. So the other way round is gone here: the
-//! sources of the new clause, those that begin with one of its variables, are compared with it (forward subsumption, in the manner of Zhang,
-//! SAT 2005), and it goes or gets shorter at once, or they are all free of it, and it is fresh no longer.
+//! sources of the new clause, those that begin with one of its variables, are compared with it (forward subsumption, in the manner of
+//! Zhang, SAT 2005), and it goes or gets shorter at once, or they are all free of it, and it is fresh no longer.
 //!
-//! The first change ends the turn: a shorter clause is another one, and fresh again, as the kernel says of all that comes. It is
-//! fresh since others may now lie within it... no: what lies within it lay within the longer one, but the sources that were not compared
-//! with that are to be compared with it.
+//! The first change ends the turn. A shorter clause that comes in its place is fresh too, as the kernel says of all that comes: the
+//! sources that were not compared with the longer one yet are to be compared with it. It is due as well.
 //!
 //! While it only compares, nothing changes, so after the limit and after want of memory the clause is fresh as before. What was compared is
 //! compared again in the next run: a turn is no more than a comparison with each firm clause.
@@ -56,8 +55,7 @@ fn seek_change(
             if *steps >= limit {
                 return Ok(Fate::Halted);
             }
-            *steps += 1;
-            match meet(kernel, *by, id)? {
+            match meet(kernel, *by, id, steps)? {
                 Change::Kept => {}
                 Change::Gone => return Ok(Fate::Went),
                 Change::Came(next) => return Ok(Fate::Shrank(next)),

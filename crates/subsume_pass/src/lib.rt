@@ -11,4 +11,6 @@ mod change;
 mod compare;
 mod fresh;
 pub mod pass;
+#[cfg(test)]
+mod tests;
 mod turn;

@@ -4,11 +4,11 @@
 //! each costs time in every propagation that meets it. SatELite (Eén and Biere, SAT 2005) removes both, and its way is the one here: a
 //! clause is tried on those that hold its rarest variable.
 //!
-//! What is new is that the clauses need not all be compared each time. The kernel keeps, from run to run, which clauses are due to be tried
-//! on all others, and which are fresh, so that all others are to be tried on them; all pairs of others are known to be free of one
-//! another. The pass takes the fresh ones first, and then, where none is fresh, the ones that are due, and takes each off the kernel's lists by
-//! the fact that was found. Where nothing waits the pass ends at once. Where more waits than there are clauses, all clauses become due, which
-//! is less: so in a first run none is fresh, and each pair is compared in the one way and in the other at most once.
+//! What is new is that the clauses need not all be compared each time. The kernel keeps, from run to run, which clauses are due to be
+//! tried on all others, and which are fresh, so that all others are to be tried on them; all pairs of others are known to be free of one
+//! another. The pass takes the fresh ones first, and then, where none is fresh, the ones that are due, and takes each off the kernel's
+//! lists by the fact that was found. Where nothing waits the pass ends at once. Where more waits than there are clauses, all clauses
+//! become due, which is less: so in a first run none is fresh, and each pair is compared in the one way and in the other at most once.
 //!
 //! It ends, for each turn takes one off, and what comes to wait is paid for by clauses and literals that went. With M firm clauses at
 //! the start, at most M wait, and a turn has at most M steps, so there are at most M M steps to the first change, and from each to the
@@ -99,17 +99,17 @@ fn work_off(kernel: &mut Kernel, limit: u64) -> Result<Ended, Memory>
     Ok(Ended::Fixpoint)
 }
 
-/// Drops each firm clause that another one lies within, and shortens each from which a resolution with another one takes a literal away, until
-/// there is none (`Fixpoint`), or until as many steps were counted as `limit` and one more is needed (`Limit`). A step is a comparison of
-/// two firm clauses. With M firm clauses of L literals together at the start, a limit of M M (L + M + 1) is always enough, and
-/// after `Limit(s)` the number of the firm clauses and of their literals together has fallen by at least s / (M M).
+/// Drops each firm clause that another one lies within, and shortens each from which a resolution with another one takes a literal away,
+/// until there is none (`Fixpoint`), or until as many steps were counted as `limit` and one more is needed (`Limit`). A step is a
+/// comparison of two firm clauses. With M firm clauses of L literals together at the start, a limit of M M (L + M + 1) is always enough,
+/// and after `Limit(s)` the number of the firm clauses and of their literals together has fallen by at least s / (M M).
 ///
 /// Only clauses that wait, as the kernel knows, are compared with others. After `Fixpoint` none waits, so that a second run takes no step
 /// and no time; after `Limit` and `Memory` whatever was not compared yet still waits. Where an empty clause is firm, nothing changes; where
 /// one comes, the pass ends with `Fixpoint`, and what it says is not claimed.
 ///
-/// The kernel changes by its rules alone, as passes may use them (`Ruled`), whatever is answered: after `Memory` it is as the last rule left
-/// it. No clause is parked, whatever is frozen. `removed` is the rise of the kernel's count of removals.
+/// The kernel changes by its rules alone, as passes may use them (`Ruled`), whatever is answered: after `Memory` it is as the last rule
+/// left it. No clause is parked, whatever is frozen. `removed` is the rise of the kernel's count of removals.
 pub fn run(kernel: &mut Kernel, frozen: &Frozen, limit: u64) -> Result<PassReport, Memory>
     ensures ruled { Ruled (is_frozen frozen.now) kernel.old kernel.new }
     ensures removed { IfOk result (λ report. report.removed ≡ kernel.new.removals - kernel.old.removals) }

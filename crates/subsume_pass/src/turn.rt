@@ -8,14 +8,14 @@
 //! later, and of the clauses that come only they themselves must be tried. Likewise none need be tried on a shorter clause that takes the
 //! place of one on which all others were tried: it is not fresh, and is taken off at once.
 //!
-//! The ids of the candidates are copied before the first comparison, since the lists of the store change meanwhile. An id whose turn comes is
-//! looked up again: it may name nothing any more, or a clause that came since. That is no harm: whatever firm clause it names is compared,
-//! and each clause that comes is free of the one that is tried, since it has lost that one's literal. So after a change the walk goes
-//! on where it was, and begins not anew. It holds all the time: every firm clause is free of the one that is tried, or its id is
-//! still to come.
+//! The ids of the candidates are copied before the first comparison, since the lists of the store change meanwhile. An id whose turn
+//! comes is looked up again: it may name nothing any more, or a clause that came since. That is no harm: whatever firm clause it names is
+//! compared, and each clause that comes is free of the one that is tried, since it has lost that one's literal. So after a change the
+//! walk goes on where it was, and begins not anew. It holds all the time: every firm clause is free of the one that is tried, or its id
+//! is still to come.
 //!
 //! The clause stays due until it has been tried on all, so that after the limit, and after want of memory, it still waits.
-ghost use Rattle.std.specs.Prelude.{◌≡◌, ◌≢◌, ◌≤◌, ◌<◌, ◌==◌, [], length, true, not, ◌&&◌, IfOk, MatchBool, if◌then◌else◌};
+ghost use Rattle.std.specs.Prelude.{◌≡◌, ◌≢◌, ◌≤◌, ◌<◌, ◌+◌, ◌^◌, ◌==◌, [], length, true, not, ◌&&◌, IfOk, MatchBool, if◌then◌else◌};
 ghost use Rattle.sat_terms.specs.Literal.{has};
 ghost use Rattle.clause_store.specs.Stored.{slot, slot_lits, is_firm};
 ghost use Rattle.firm_terms.specs.Firm.{firm, has_empty};
@@ -66,18 +66,26 @@ pub(crate) fn names_other(store: &Store, by: ClauseId, id: ClauseId) -> bool
     names_firm(store, id)
 }
 
-// Compares a clause with another one, where none is fresh. A shorter clause that comes is due. Answers whether no empty clause came.
-fn meet_due(kernel: &mut Kernel, by: ClauseId, id: ClauseId) -> Result<bool, Memory>
+// Compares a clause with another one, where none is fresh: a step. A shorter clause that comes is due. Answers whether no empty clause
+// came.
+fn meet_due(
+    kernel: &mut Kernel,
+    by: ClauseId,
+    id: ClauseId,
+    steps: &mut u64,
+) -> Result<bool, Memory>
     requires by { is_firm (slot kernel.old.store by) ≡ true }
     requires id { is_firm (slot kernel.old.store id) ≡ true }
     requires other { by ≢ id }
     requires fresh { kernel.old.waiting.fresh ≡ [] }
+    requires room { steps.old + 1 < 2 ^ 64 }
     ensures ruled { Ruled always kernel.old kernel.new }
     ensures keeps { Keeps kernel.old kernel.new by }
+    ensures counted { steps.new ≡ steps.old + 1 }
     ensures met { IfOk result (λ left. MatchBool left (Met kernel.old kernel.new by id) (has_empty (firm kernel.new.store) ≡ true)) }
 {
     kernel.law_promises();
-    match meet(kernel, by, id)? {
+    match meet(kernel, by, id, steps)? {
         Change::Kept => Ok(true),
         Change::Gone => Ok(true),
         Change::Came(next) => {
@@ -112,8 +120,7 @@ fn meet_all(
             if *steps >= limit {
                 return Ok(Turn::Full);
             }
-            *steps += 1;
-            if !meet_due(kernel, by, *id)? {
+            if !meet_due(kernel, by, *id, steps)? {
                 return Ok(Turn::Refuted);
             }
         }
@@ -122,7 +129,12 @@ fn meet_all(
 }
 
 // Tries a firm clause on all others.
-fn try_on_all(kernel: &mut Kernel, by: ClauseId, steps: &mut u64, limit: u64) -> Result<Turn, Memory>
+fn try_on_all(
+    kernel: &mut Kernel,
+    by: ClauseId,
+    steps: &mut u64,
+    limit: u64,
+) -> Result<Turn, Memory>
     requires by { is_firm (slot kernel.old.store by) ≡ true }
     requires fresh { kernel.old.waiting.fresh ≡ [] }
     requires rest { steps.old ≤ limit }

@@ -22,8 +22,8 @@ loop-by-preserved c =
       | then-names_other+else-steps-limit+in_ok-meet+in-Kept w ↦
           (let k : (w.meet.new.kernel ≡ c.loop-by.kernel) × IsFree (slot_lits (slot c.loop-by.kernel.store c.by-item.result)) (slot_lits (slot c.loop-by.kernel.store c.args.id)) = rw w.in-Kept.is at w.in_ok-meet.ensures.changes in
           rw (w.kernel-is, w.steps-is)
-          (seeking_kept c.args.kernel.now c.loop-by.kernel w.meet.new.kernel c.args.id c.args.ids.now c.loop-by.by-index c.by-item.result c.args.steps.now c.loop-by.steps (c.loop-by.steps + 1) c.args.limit
-          c.loop-by-test.true c.by-item.is c.loop-by.invariant w.meet.ensures.ruled k refl w.if-steps-limit.false))
+          (seeking_kept c.args.kernel.now c.loop-by.kernel w.meet.new.kernel c.args.id c.args.ids.now c.loop-by.by-index c.by-item.result c.args.steps.now c.loop-by.steps w.meet.new.steps c.args.limit
+          c.loop-by-test.true c.by-item.is c.loop-by.invariant w.meet.ensures.ruled k w.meet.ensures.counted w.if-steps-limit.false))
       | else-names_other w ↦
           (let o : (not (eqb c.args.id c.by-item.result) && is_firm (slot c.loop-by.kernel.store c.by-item.result)) ≡ false = rw c.store.ensures at (sym c.names_other.ensures ∙ w.if-names_other.false) in
           rw (w.kernel-is, w.steps-is)

@@ -44,8 +44,8 @@ loop-id-preserved c =
       | then-names_other+else-steps-limit+in_ok-meet_due+else-not-branch w ↦
           (let m : Met c.loop-id.kernel w.meet_due.new.kernel c.args.by c.id-item.result = rw w.if-not-branch.false at w.in_ok-meet_due.ensures.met in
           rw (w.kernel-is, w.steps-is)
-          (testing_met c.args.kernel.now c.loop-id.kernel w.meet_due.new.kernel c.args.by c.args.ids.now c.loop-id.id-index c.id-item.result c.args.steps.now c.loop-id.steps (c.loop-id.steps + 1) c.args.limit
-          c.loop-id-test.true c.id-item.is c.loop-id.invariant w.meet_due.ensures.ruled m refl w.if-steps-limit.false))
+          (testing_met c.args.kernel.now c.loop-id.kernel w.meet_due.new.kernel c.args.by c.args.ids.now c.loop-id.id-index c.id-item.result c.args.steps.now c.loop-id.steps w.meet_due.new.steps c.args.limit
+          c.loop-id-test.true c.id-item.is c.loop-id.invariant w.meet_due.ensures.ruled m w.meet_due.ensures.counted w.if-steps-limit.false))
       | else-names_other w ↦
           (let o : (not (eqb c.args.by c.id-item.result) && is_firm (slot c.loop-id.kernel.store c.id-item.result)) ≡ false = rw c.store.ensures at (sym c.names_other.ensures ∙ w.if-names_other.false) in
           rw (w.kernel-is, w.steps-is)
