@@ -335,10 +335,10 @@ fn acts_on(c: &[Lit], d: &[Lit]) -> bool {
     count == 0 || count == 1 && opposes(c, d)
 }
 
-// Whether a firm clause acts on another one.
-fn is_done(kernel: &Kernel, by: ClauseId) -> bool {
+// Whether the clause of an id acts on no other firm one.
+fn is_done(kernel: &Kernel, by: ClauseId, lits: &[Lit]) -> bool {
     for id in kernel.store().firm_ids() {
-        if *id != by && acts_on(kernel.store().get(by), kernel.store().get(*id)) {
+        if *id != by && acts_on(lits, kernel.store().get(*id)) {
             return false;
         }
     }
@@ -361,7 +361,7 @@ fn is_fixpoint(kernel: &Kernel) -> bool {
         return true;
     }
     for id in kernel.store().firm_ids() {
-        if !is_done(kernel, *id) {
+        if !is_done(kernel, *id, kernel.store().get(*id)) {
             return false;
         }
     }
