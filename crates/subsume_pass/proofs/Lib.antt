@@ -1,0 +1,10 @@
+pub mod Changing
+pub mod Clauses
+pub mod Collecting
+pub mod Comparing
+pub mod Passing
+pub mod Seeking
+pub mod Setting
+pub mod Sourcing
+pub mod Trying
+pub mod Waiting

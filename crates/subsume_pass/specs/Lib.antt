@@ -1,0 +1,5 @@
+pub mod Comparing
+pub mod Choosing
+pub mod Changing
+pub mod Trying
+pub mod Pass
