@@ -1,0 +1,6 @@
+pub mod Ordering
+pub mod Occurring
+pub mod Forms
+pub mod Trying
+pub mod Making
+pub mod Settling

@@ -1,0 +1,5 @@
+//! Bounded variable elimination.
+#![tactic(auto)]
+
+mod resolve;
+mod test;
