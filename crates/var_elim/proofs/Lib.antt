@@ -1,3 +1,4 @@
+pub mod Merging
 pub mod Ordering
 pub mod Occurring
 pub mod Forms

@@ -1,40 +1,126 @@
 //! The resolvent of two clauses.
-ghost use Rattle.std.specs.Prelude.{◌≡◌, ◌++◌, true, false, IfOk, IfSome, IfNone, OnOk};
+//!
+//! Both clauses are normal, so their literals rise by variable, and the resolvent is put together in one walk through both, as two sorted
+//! lists are merged. At each step the lesser of the two literals that come next goes to the resolvent; a literal that both hold goes there
+//! once. Where the two are opposite, they are either the literals that are resolved on, which are left out, or the resolvent is a
+//! tautology, and the walk ends. So a resolvent costs as many steps as its clauses have literals, and it is in normal form from the
+//! start. A tautology takes no memory of its own: the literals go into a list that is used for each pair anew.
+ghost use Rattle.std.specs.Prelude.{◌≡◌, ◌<◌, ◌≤◌, ◌+◌, ◌⊎◌, true, false, length, IfOk, IfSome, IfNone, MatchBool};
+ghost use Rattle.sat_terms.specs.Literal.{has, neg as opposite};
 ghost use Rattle.sat_terms.specs.Normal.{IsNormal};
 ghost use Rattle.normal_form.specs.Forms.{IsFormOf};
-ghost use Rattle.firm_terms.specs.Resolving.{without, resolvent, is_tautology};
+ghost use Rattle.firm_terms.specs.Resolving.{resolvent, is_tautology};
+ghost use Rattle.var_elim.specs.Merging.{Leads};
 
-use normal_form::forms::normal_form;
 use sat_model::lists::Lits;
 use sat_model::literal::Lit;
 use sat_model::memory::Memory;
 use std::alloc::Global;
 
-// Appends the literals of a clause but one.
-fn gather(out: &mut Vec<Lit>, lits: &[Lit], not: Lit) -> Result<(), Memory>
-    ensures { OnOk result (out.new.items ≡ out.old.items ++ without not lits.now) }
-{
-    for lit in lits {
-        if *lit != not {
-            out.push(*lit)?;
-        }
-    }
-    Ok(())
+// Which literal comes next in a walk through two clauses.
+#[derive(Clone, Copy)]
+pub(crate) enum Next {
+    // That of the first one.
+    Left,
+    // That of the second one.
+    Right,
+    // The literal that is next in both.
+    Both,
+    // None: the next two are those that are resolved on.
+    Skip,
+    // None: the next two are opposite, so the resolvent is a tautology.
+    Clash,
 }
 
-/// The resolvent of two clauses on a literal of the first whose negation the second holds, in normal form; `None` where it is a tautology.
+// Which literal comes next, where not both walks are at the end.
+fn next(left: &[Lit], right: &[Lit], at: usize, to: usize, lit: Lit) -> Next
+    requires left { IsNormal left.now }
+    requires right { IsNormal right.now }
+    requires at { at ≤ length left.now }
+    requires to { to ≤ length right.now }
+    requires some { (at < length left.now) ⊎ (to < length right.now) }
+    requires negation { has right.now (opposite lit) ≡ true }
+    ensures { Leads lit left.now right.now at to result }
+{
+    if to == right.len() {
+        return Next::Left;
+    }
+    if at == left.len() {
+        return Next::Right;
+    }
+    let first = left[at];
+    let second = right[to];
+    if first == second {
+        return Next::Both;
+    }
+    if first.neg() == second {
+        if first == lit {
+            return Next::Skip;
+        }
+        return Next::Clash;
+    }
+    if first < second {
+        Next::Left
+    } else {
+        Next::Right
+    }
+}
+
+// Puts the resolvent together. Answers whether it is no tautology.
+fn merge(form: &mut Vec<Lit>, left: &[Lit], right: &[Lit], lit: Lit) -> Result<bool, Memory>
+    requires left { IsNormal left.now }
+    requires right { IsNormal right.now }
+    requires holds { has left.now lit ≡ true }
+    requires negation { has right.now (opposite lit) ≡ true }
+    ensures { IfOk result (λ clear. MatchBool clear (IsFormOf form.new.items (resolvent lit left.now right.now)) (is_tautology (resolvent lit left.now right.now) ≡ true)) }
+{
+    form.clear();
+    let mut at = 0;
+    let mut to = 0;
+    while at < left.len() || to < right.len() {
+        match next(left, right, at, to, lit) {
+            Next::Left => {
+                form.push(left[at])?;
+                at += 1;
+            }
+            Next::Right => {
+                form.push(right[to])?;
+                to += 1;
+            }
+            Next::Both => {
+                form.push(left[at])?;
+                at += 1;
+                to += 1;
+            }
+            Next::Skip => {
+                at += 1;
+                to += 1;
+            }
+            Next::Clash => return Ok(false),
+        }
+    }
+    Ok(true)
+}
+
+/// The resolvent of two clauses on a literal of the first whose negation the second holds, in normal form; `None` where it is a
+/// tautology. The list is for the literals meanwhile: what it has is lost.
 pub(crate) fn resolve(
     alloc: Global,
     left: &[Lit],
     right: &[Lit],
     lit: Lit,
+    scratch: &mut Vec<Lit>,
 ) -> Result<Option<Lits>, Memory>
+    requires left { IsNormal left.now }
+    requires right { IsNormal right.now }
+    requires holds { has left.now lit ≡ true }
+    requires negation { has right.now (opposite lit) ≡ true }
     ensures some { IfOk result (λ found. IfSome found (λ form. IsFormOf form (resolvent lit left.now right.now))) }
-    ensures clear { IfOk result (λ found. IfSome found (λ form. is_tautology (resolvent lit left.now right.now) ≡ false)) }
     ensures none { IfOk result (λ found. IfNone found (is_tautology (resolvent lit left.now right.now) ≡ true)) }
 {
-    let mut all = Vec::new(alloc);
-    gather(&mut all, left, lit)?;
-    gather(&mut all, right, lit.neg())?;
-    normal_form(alloc, all.as_slice())
+    if !merge(scratch, left, right, lit)? {
+        return Ok(None);
+    }
+    let form = Lits::from_slice(alloc, scratch.as_slice())?;
+    Ok(Some(form))
 }
