@@ -31,7 +31,9 @@ use trail_state::trail::Trail;
 // literal, its mark stands for what implied it.
 #[derive(Drop)]
 pub(crate) struct Needs {
+    // The assumption that is false, if the core is that of one.
     falsified: Option<Lit>,
+    // At each place of the trail whether it is marked.
     places: Vec<bool>,
 }
 

@@ -28,17 +28,22 @@ const END: usize = 4_294_967_296;
 // Where the literals of a clause lie, its kind and its glue. An id that names no clause has a place that is not live.
 #[derive(Clone, Copy)]
 pub(crate) struct Place {
-    // The place of the first literal in the array, and how many there are.
+    // The place of the first literal in the array.
     start: u32,
+    // How many literals there are.
     len: u32,
+    // The glue that the clause was stored with.
     glue: u32,
+    // Whether it is firm or redundant.
     keep: Keep,
+    // Whether the id names a clause. Where it does not, the other fields say nothing.
     live: bool,
 }
 
 // The clauses of ids.
 #[derive(Drop)]
 pub(crate) struct Arena {
+    // The allocator for the array and the table that `compact` makes.
     alloc: Global,
     // The literals of the clauses. What was removed leaves a gap until `compact`.
     words: Vec<Lit>,

@@ -19,8 +19,9 @@ const MOST: usize = 4_294_967_295;
 // Two lists of ids, in no order. An id stands in one of them at most, and once.
 #[derive(Drop)]
 pub(crate) struct Kinds {
-    // The ids of either kind.
+    // The ids of the firm clauses.
     firm: Vec<ClauseId>,
+    // The ids of the redundant ones.
     redundant: Vec<ClauseId>,
     // At each id that stands in a list the place where it stands there.
     places: Vec<u32>,

@@ -20,13 +20,16 @@ const END: usize = 4_294_967_296;
 // Where the cells of a clause lie.
 #[derive(Clone, Copy)]
 pub(crate) struct Piece {
-    // The place of the first cell in the array, and how many there are.
+    // The place of the first cell in the array.
     start: u32,
+    // How many cells there are.
     len: u32,
 }
 
+// The cells of the clauses, by id.
 #[derive(Drop)]
 pub(crate) struct Spots {
+    // The allocator for the array and the table that `compact` makes.
     alloc: Global,
     // The place of an id in the list of a literal.
     cells: Vec<u32>,

@@ -51,7 +51,9 @@ pub enum AnalyzeStop {
 // A learned clause, and its literal of the current level.
 #[derive(Clone, Copy)]
 struct Lesson {
+    // What is said of the clause.
     learned: Learned,
+    // Its literal of the current level, which it asserts after going back.
     owed: Lit,
 }
 

@@ -19,20 +19,28 @@ use trail_state::trail::Trail;
 // A scene, and the clause that is false on its trail.
 #[derive(Drop)]
 struct Conflict {
+    // The scene.
     scene: Scene,
+    // The clause that is false.
     clause: ClauseId,
 }
 
-// What a scene is made of and what its conflict teaches. The clauses; the literals of the trail, each with the number of its reason, or 0 where it was
-// decided; the number of the false clause; the learned clause, its back level, glue and asserting literal. Clauses are numbered from 1 on.
+// What a scene is made of and what its conflict teaches. Clauses are numbered from 1 on.
 #[derive(Drop)]
 struct Row<'a> {
+    // The clauses.
     clauses: &'a [&'a [i32]],
+    // The literals of the trail, each with the number of its reason, or 0 where it was decided.
     trail: &'a [(i32, usize)],
+    // The number of the false clause.
     conflict: usize,
+    // The learned clause.
     learned: &'a [i32],
+    // Its back level.
     back_level: u32,
+    // Its glue.
     glue: u32,
+    // Its asserting literal.
     owed: i32,
 }
 

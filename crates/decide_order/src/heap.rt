@@ -30,12 +30,17 @@ const FIRST_STEP: u64 = 0x10_0000;
 // Variables with scores, the greatest score at the top.
 #[derive(Drop)]
 pub(crate) struct Heap {
-    // All variables, those in the heap first, and for each variable its place there and its score.
+    // All variables, those in the heap first.
     items: Vec<u32>,
+    // The place of each variable among `items`.
     places: Vec<u32>,
+    // The score of each variable.
     scores: Vec<u64>,
+    // How many variables there are: those from 1 on.
     count: u32,
+    // For how many places each table has memory; the tables by variable have one for 0 too.
     room: usize,
+    // How many variables are in the heap.
     size: usize,
     // What a bump adds.
     step: u64,

@@ -42,12 +42,16 @@ use trail_state::trail::Trail;
 /// what tells whether the order follows a trail. `declare` alone takes memory.
 #[derive(Drop)]
 pub struct Order {
+    // The allocator for the list of variables to bump.
     alloc: Global,
-    // A flag for each active variable, and one for each whose saved phase is true.
+    // At each variable whether it is active.
     active: Vec<bool>,
+    // At each variable whether its saved phase is true.
     phases: Vec<bool>,
-    // Both follow the trail all the time, so that a change of halves costs nothing.
+    // The order of the focused halves. Queue and heap both follow the trail all the time, so that a
+    // change of halves costs nothing.
     queue: Queue,
+    // The order of the stable halves.
     heap: Heap,
     // Whether the heap decides, and is bumped.
     stable: bool,
@@ -68,7 +72,9 @@ impl Model for Order {
 // A variable, and when it was bumped last.
 #[derive(Clone, Copy, PartialEq, Eq, PartialOrd, Ord)]
 struct Aged {
+    // The time of its last bump. It stands first, since the order of fields is that of sorting.
     stamp: u64,
+    // The variable.
     var: u32,
 }
 

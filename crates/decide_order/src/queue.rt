@@ -27,14 +27,20 @@ const LAST_STAMP: u64 = 0x8000_0000_0000_0000;
 // for, towards older ones.
 #[derive(Drop)]
 pub(crate) struct Queue {
-    // For each variable the one bumped before it, the one bumped after it, and the time of its last
-    // bump. The place 0 stands behind the newest and before the oldest.
+    // For each variable the one bumped before it. In this table and the next one the place 0 stands
+    // behind the newest and before the oldest.
     prevs: Vec<u32>,
+    // For each variable the one bumped after it.
     nexts: Vec<u32>,
+    // For each variable its stamp, the time of its last bump.
     stamps: Vec<u64>,
+    // How many variables there are: those from 1 on.
     count: u32,
+    // For how many places each table has memory; the place 0 is one.
     room: usize,
+    // The greatest stamp that was given.
     last: u64,
+    // The variable from which the next one is looked for, 0 where none is left.
     cursor: u32,
 }
 

@@ -6,8 +6,9 @@ use Rattle.sat_terms.specs.Literal.{IsLiteral}
 use Rattle.equiv_subst.specs.declared.walk.Mark.{Mark}
 use Rattle.equiv_subst.specs.declared.walk.Mark.TheVariants.{Fresh, Open, Done}
 use Rattle.equiv_subst.specs.declared.pairs.Pair.{Pair}
-use Rattle.equiv_subst.specs.Implications.{Leads, Arc, arcs, size, IsGraph}
-use Rattle.equiv_subst.specs.Implications.Leads.{here, more}
+use Rattle.equiv_subst.specs.Implications.{Arc, arcs, size, IsGraph}
+use Rattle.firm_terms.specs.Implying.{Leads}
+use Rattle.firm_terms.specs.Implying.Leads.{here, more}
 use Rattle.equiv_subst.specs.Walk.{Way, mark, IsWay, unseen, Walks, Halted, Explored, Found, start}
 use Rattle.equiv_subst.proofs.Leading.{leads_falls}
 use Rattle.equiv_subst.proofs.Walking.{weigh_all, sum_upto}

@@ -8,9 +8,10 @@ use Rattle.sat_terms.specs.Normal.{IsNormal}
 use Rattle.sat_terms.proofs.Literals.{neg-neg}
 use Rattle.clause_store.specs.Stored.{Stored, slot, slot_lits, is_firm}
 use Rattle.clause_store.specs.Listing.{HasEachOnce, firm_at}
-use Rattle.pass_terms.specs.Firm.{firm}
-use Rattle.equiv_subst.proofs.Counting.{place_of, count_ids, listed}
-use Rattle.equiv_subst.specs.Implications.{Arc, arcs, size, IsGraph, Gains, IsPairOf, Says, Adds, Shows, IsGraphOf}
+use Rattle.firm_terms.specs.Firm.{firm}
+use Rattle.firm_terms.proofs.Counting.{place_of, count_ids, listed}
+use Rattle.equiv_subst.specs.Implications.{Arc, arcs, size, IsGraph, Gains, Adds, Shows, IsGraphOf}
+use Rattle.firm_terms.specs.Implying.{IsPairOf, Says}
 use Rattle.equiv_subst.proofs.Leading.{has_at_place}
 
 pub record Longer (old new : List (List ℕ)) : Type 0 where

@@ -5,10 +5,8 @@ use Rattle.std.proofs.lemmas.Bool.{cases_Bool, false≢true, or_cases, or_left, 
 use Rattle.std.proofs.lemmas.List.Sums.{sum_by-cons, count_by-le-length}
 use Rattle.sat_terms.specs.Literal.{has, var_of}
 use Rattle.clause_store.specs.Stored.{Stored, keeps_firm, slot, slot_lits, is_firm}
-use Rattle.pass_terms.specs.Firm.{firm, stands}
-use Rattle.rule_kernel.specs.Changes.{mentions}
-use Rattle.equiv_subst.specs.Clauses.{with_var, with_vars, vars, gone}
-use Rattle.pass_terms.proofs.Standing.{lit_of}
+use Rattle.firm_terms.specs.Firm.{firm, stands, mentions, with_var, with_vars, vars, gone}
+use Rattle.firm_terms.proofs.Standing.{lit_of}
 
 -- a firm clause that passes a test, by its id
 pub some_of : (p : List ℕ → Bool) (s : List (Option Stored)) → list_any p (firm s) ≡ true → (id : ℕ) × (is_firm (slot s id) ≡ true) × (p (slot_lits (slot s id)) ≡ true)

@@ -1,5 +1,4 @@
 pub mod Backward
-pub mod Counting
 pub mod Finding
 pub mod Graphs
 pub mod Leading

@@ -4,11 +4,11 @@ use Rattle.std.proofs.lemmas.Bool.{and_parts, and_from}
 use Rattle.std.proofs.lemmas.List.{get_or_default}
 use Rattle.sat_terms.specs.Literal.{has, neg, var_of}
 use Rattle.sat_terms.proofs.Literals.{var_of-neg}
-use Rattle.equiv_subst.specs.Implications.{Says}
+use Rattle.firm_terms.specs.Implying.{Says}
 use Rattle.clause_store.specs.Stored.{Stored, slot, slot_lits, is_firm}
 use Rattle.clause_store.specs.Listing.{HasEachOnce, holds_at}
-use Rattle.equiv_subst.specs.Clauses.{Holds}
-use Rattle.equiv_subst.proofs.Counting.{listed, place_of}
+use Rattle.firm_terms.specs.Firm.{Holds}
+use Rattle.firm_terms.proofs.Counting.{listed, place_of}
 
 pub holds_of : (s : List (Option Stored)) (l id : ℕ) → holds_at s l id ≡ true → Holds s id l
 holds_of s l id h = let p = and_parts (is_firm (slot s id)) (has (slot_lits (slot s id)) l) h in record { firm = p.0; has = p.1 }

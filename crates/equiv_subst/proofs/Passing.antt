@@ -10,19 +10,19 @@ use Rattle.sat_terms.proofs.Truths.{lit_true-neg}
 use Rattle.clause_store.specs.Stored.{Stored, slot, slot_lits, is_firm, FirmTrue}
 use Rattle.rule_kernel.specs.State.{State}
 use Rattle.rule_kernel.specs.Rules.{AddsImplied}
-use Rattle.pass_terms.specs.Firm.{firm, stands}
-use Rattle.equiv_subst.specs.Clauses.{has_empty, vars, gone, Holds}
+use Rattle.firm_terms.specs.Firm.{firm, stands, has_empty, vars, gone, Holds}
 use Rattle.pass_terms.specs.Ruled.{Ruled}
 use Rattle.pass_terms.specs.Ruled.Uses.{implied}
 use Rattle.pass_terms.specs.Ruled.Ruled.{none, more}
-use Rattle.pass_terms.proofs.Standing.{stands_of, stands_from, mentions_lit, lit_of}
+use Rattle.firm_terms.proofs.Standing.{stands_of, stands_from, mentions_lit, lit_of}
 use Rattle.clause_store.specs.Listing.{HasEachOnce, firm_at, holds_at}
-use Rattle.equiv_subst.proofs.Counting.{count_firm, place_of, listed}
+use Rattle.firm_terms.proofs.Counting.{count_firm, place_of, listed}
 use Rattle.pass_terms.proofs.Ruling.{ruled_trans, ruled_weaken, ruled_stands, ruled_gone}
 use Rattle.equiv_subst.proofs.Backward.{still_implied}
 use Rattle.equiv_subst.proofs.Leaving.{some_of, some_from, has-vars, gone_le, gone_less, gone_most}
 use Rattle.equiv_subst.specs.declared.pairs.Pair.{Pair}
-use Rattle.equiv_subst.specs.Implications.{Joined, Arc, size, IsGraphOf, Implication}
+use Rattle.equiv_subst.specs.Implications.{Arc, size, IsGraphOf}
+use Rattle.firm_terms.specs.Implying.{Joined, Implication}
 use Rattle.equiv_subst.specs.Walk.{pair, no_pair, Found, Halted}
 use Rattle.equiv_subst.specs.Replacing.{all_but}
 use Rattle.equiv_subst.specs.Pass.{IsFixpoint, AreEquivalent, Equivalences, Tried, Covers, Advanced, Exhausted, WentOn, CameFull, ReachesLimit}

@@ -16,18 +16,16 @@ use Rattle.clause_store.specs.Stored.{Stored, slot, slot_lits, is_firm, SlotTrue
 use Rattle.sat_model.specs.declared.memory.Memory.{Memory}
 use Rattle.rule_kernel.specs.State.{State}
 use Rattle.rule_kernel.specs.Rules.{firm_clause, AddsImplied, DropsImplied, Parks}
-use Rattle.pass_terms.specs.Firm.{firm, stands}
-use Rattle.rule_kernel.specs.Changes.{mentions}
-use Rattle.equiv_subst.specs.Clauses.{Holds}
+use Rattle.firm_terms.specs.Firm.{firm, stands, mentions, Holds}
 use Rattle.pass_terms.specs.Ruled.{IsKnown, Ruled}
 use Rattle.pass_terms.specs.Ruled.Uses.{implied, dropped, parked}
 use Rattle.pass_terms.specs.Ruled.Ruled.{none, more}
-use Rattle.pass_terms.proofs.Standing.{stands_of, stands_from, mentions_lit, lit_of}
+use Rattle.firm_terms.proofs.Standing.{stands_of, stands_from, mentions_lit, lit_of}
 use Rattle.pass_terms.proofs.Ruling.{ruled_trans, ruled_weaken}
 use Rattle.witness_stack.proofs.Rows.{apart_one}
-use Rattle.equiv_subst.proofs.Counting.{one_if, count_filled, count_freed, count_two, count_three, count_le}
-use Rattle.equiv_subst.specs.Implications.{IsPairOf, Says, Implication, Leads}
-use Rattle.equiv_subst.specs.Implications.Leads.{here, more as further}
+use Rattle.firm_terms.proofs.Counting.{one_if, count_filled, count_freed, count_two, count_three, count_le}
+use Rattle.firm_terms.specs.Implying.{IsPairOf, Says, Implication, Leads}
+use Rattle.firm_terms.specs.Implying.Leads.{here, more as further}
 use Rattle.equiv_subst.specs.Replacing.{always, all_but, rename, renamed, AreTied, about, KeepsFirm, Renames, Renamed, Ties, Cleared, Stopped, TiedBy, IsReady, RanOut, Parked, Replaced}
 use Rattle.equiv_subst.specs.Walk.{Halted}
 use Rattle.equiv_subst.proofs.Leading.{has_place}

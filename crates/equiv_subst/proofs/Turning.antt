@@ -8,7 +8,8 @@ use Rattle.equiv_subst.specs.declared.walk.Mark.{Mark}
 use Rattle.equiv_subst.specs.declared.walk.Mark.TheVariants.{Fresh, Open, Done}
 use Rattle.equiv_subst.specs.declared.walk.Root.{Root}
 use Rattle.equiv_subst.specs.declared.pairs.Pair.{Pair}
-use Rattle.equiv_subst.specs.Implications.{Leads, Arc, arcs, IsGraph}
+use Rattle.equiv_subst.specs.Implications.{Arc, arcs, IsGraph}
+use Rattle.firm_terms.specs.Implying.{Leads}
 use Rattle.equiv_subst.specs.Walk.{Way, mark, at, root, no_root, pair, IsWay, Numbers, Marks, OnPath, fresh_weight, weigh, unseen, Merges, meeting, Closes, Looks, AreJoined, AreSettled, AreFit, AreFrom, AreFrozen, Walks, StayMet, Turned, Halted, Exploring}
 use Rattle.equiv_subst.specs.Walk.Looks.{fresh_one, open_one, done_one}
 use Rattle.equiv_subst.proofs.Leading.{has_place, has_at_place}

@@ -6,12 +6,11 @@ use Rattle.clause_store.specs.Stored.{Stored, FirmTrue}
 use Rattle.rule_kernel.specs.declared.report.Ended.{Ended}
 use Rattle.rule_kernel.specs.declared.report.Ended.TheVariants.{Fixpoint, Limit}
 use Rattle.rule_kernel.specs.State.{State}
-use Rattle.pass_terms.specs.Firm.{firm, stands}
-use Rattle.equiv_subst.specs.Clauses.{has_empty, vars, gone}
+use Rattle.firm_terms.specs.Firm.{firm, stands, has_empty, vars, gone}
 use Rattle.equiv_subst.specs.declared.pairs.Pair.{Pair}
 use Rattle.equiv_subst.specs.declared.pass.Round.{Round}
 use Rattle.equiv_subst.specs.declared.pass.Round.TheVariants.{Quiet, Full, Again}
-use Rattle.equiv_subst.specs.Implications.{NoEquivalents}
+use Rattle.firm_terms.specs.Implying.{NoEquivalents}
 use Rattle.equiv_subst.specs.Walk.{pair}
 use Rattle.equiv_subst.specs.Replacing.{Replaced}
 

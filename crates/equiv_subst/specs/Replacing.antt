@@ -2,10 +2,8 @@
 use Rattle.std.specs.Prelude.{◌≡◌, ◌≢◌, ℕ, ◌+◌, ◌≤◌, ◌==◌, Bool, true, false, ◌&&◌, if◌then◌else◌, List, map, Option, count_by}
 use Rattle.sat_terms.specs.Literal.{neg, var_of}
 use Rattle.clause_store.specs.Stored.{Stored, slot, slot_lits, is_firm}
-use Rattle.pass_terms.specs.Firm.{firm, stands}
-use Rattle.rule_kernel.specs.Changes.{mentions}
-use Rattle.equiv_subst.specs.Clauses.{Holds}
-use Rattle.equiv_subst.specs.Implications.{Says}
+use Rattle.firm_terms.specs.Firm.{firm, stands, mentions, Holds}
+use Rattle.firm_terms.specs.Implying.{Says}
 
 -- no variable is free to be a witness
 abbrev pub always : ℕ → Bool

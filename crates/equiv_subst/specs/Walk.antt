@@ -8,7 +8,8 @@ use Rattle.equiv_subst.specs.declared.walk.Mark.{Mark}
 use Rattle.equiv_subst.specs.declared.walk.Mark.TheVariants.{Fresh, Open, Done}
 use Rattle.equiv_subst.specs.declared.walk.Root.{Root}
 use Rattle.equiv_subst.specs.declared.pairs.Pair.{Pair}
-use Rattle.equiv_subst.specs.Implications.{Leads, Joined, Arc, arcs, size, AllFrozen}
+use Rattle.equiv_subst.specs.Implications.{Arc, arcs, size, AllFrozen}
+use Rattle.firm_terms.specs.Implying.{Leads, Joined}
 
 pub record Way : Type 0 where
   pub marks : List Mark

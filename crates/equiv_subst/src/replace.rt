@@ -19,10 +19,9 @@ ghost use Rattle.std.specs.Prelude.{◌≡◌, ◌≢◌, ◌≤◌, ◌<◌, �
 ghost use Rattle.sat_terms.specs.Literal.{has, neg as opposite, var_of};
 ghost use Rattle.sat_terms.specs.Truth.{Implies};
 ghost use Rattle.clause_store.specs.Stored.{FirmTrue, is_firm};
-ghost use Rattle.pass_terms.specs.Firm.{firm, stands};
-ghost use Rattle.equiv_subst.specs.Clauses.{Holds};
+ghost use Rattle.firm_terms.specs.Firm.{firm, stands, Holds};
 ghost use Rattle.pass_terms.specs.Ruled.{Ruled};
-ghost use Rattle.equiv_subst.specs.Implications.{Says};
+ghost use Rattle.firm_terms.specs.Implying.{Says};
 ghost use Rattle.equiv_subst.specs.Walk.{Halted};
 ghost use Rattle.equiv_subst.specs.Replacing.{always, all_but, renamed as renaming, AreTied, Renames, Cleared, Stopped, Ties, TiedBy, IsReady, RanOut, Parked, Replaced};
 

@@ -4,7 +4,7 @@ use Rattle.std.specs.List.{filter, fold, list_any, list_all}
 use Rattle.std.specs.Prelude.{◌≡◌, ℕ, ◌+◌, ◌*◌, ◌==◌, ◌&&◌, Bool, true, not, List, [], ◌∷◌, ◌++◌, Option, length, map, nat_le, nat_lt, if◌then◌else◌}
 use Rattle.sat_terms.specs.Literal.{has, neg, pos_lit, neg_lit}
 use Rattle.clause_store.specs.Stored.{Stored, slot, slot_lits}
-use Rattle.firm_terms.specs.Firm.{firm, Holds}
+use Rattle.firm_terms.specs.Firm.{Holds}
 
 -- the clauses of a list that hold a literal
 abbrev pub holding : ℕ → List (List ℕ) → List (List ℕ)

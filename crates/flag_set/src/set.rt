@@ -19,8 +19,11 @@ use std::marker::Model;
 // What the set has for a number: it is out, in, or was taken out and is listed still.
 #[derive(Clone, Copy)]
 pub(crate) enum Flag {
+    // It is no member, and not listed.
     Out,
+    // It is a member, and listed.
     In,
+    // It was taken out, and is listed still.
     Left,
 }
 
@@ -105,6 +108,19 @@ fn lower_all<T: Member>(flags: &mut Vec<Flag>, listed: &[T])
     }
 }
 
+// Whether those of some members whose flags say that they are in are in a set too.
+fn are_in<T: Member>(members: &[T], flags: &[Flag], other: &FlagSet<T>) -> bool
+    ensures { IsTrue result ↔ ((n : ℕ) → lists T.number_of members.now n ≡ true → flag_is_in (flag flags.now n) ≡ true → holds other.now n ≡ true) }
+{
+    for member in members {
+        let at = member.number();
+        if at < flags.len() && is_in(flags[at]) && !other.has(*member) {
+            return false;
+        }
+    }
+    true
+}
+
 impl<T: Member> FlagSet<T> {
     /// The empty set. It takes no memory.
     pub fn new(alloc: Global) -> FlagSet<T>
@@ -158,12 +174,7 @@ impl<T: Member> FlagSet<T> {
     fn is_within(&self, other: &FlagSet<T>) -> bool
         ensures { IsTrue result ↔ ((n : ℕ) → holds self.now n ≡ true → holds other.now n ≡ true) }
     {
-        for member in self.listed.as_slice() {
-            if self.has(*member) && !other.has(*member) {
-                return false;
-            }
-        }
-        true
+        are_in(self.listed.as_slice(), self.flags.as_slice(), other)
     }
 
     /// Whether two sets have the same members. It costs as many steps as members came to both since these were new or cleared.
@@ -173,16 +184,26 @@ impl<T: Member> FlagSet<T> {
         self.is_within(other) && other.is_within(self)
     }
 
-    /// Puts the members of another set into the set. After `Memory` some of them came.
-    pub fn put_all(&mut self, other: &FlagSet<T>) -> Result<(), Memory>
-        ensures { OnOk result ((n : ℕ) → holds self.new n ≡ (holds self.old n || holds other.now n)) }
+    // Puts those of some members into the set whose flags say that they are in. After `Memory` some of them came.
+    fn put_each(&mut self, members: &[T], flags: &[Flag]) -> Result<(), Memory>
+        ensures more { (n : ℕ) → holds self.old n ≡ true → holds self.new n ≡ true }
+        ensures came { OnOk result ((n : ℕ) → lists T.number_of members.now n ≡ true → flag_is_in (flag flags.now n) ≡ true → holds self.new n ≡ true) }
+        ensures only { (n : ℕ) → holds self.new n ≡ true → (holds self.old n || flag_is_in (flag flags.now n)) ≡ true }
     {
-        for member in other.listed.as_slice() {
-            if other.has(*member) {
+        for member in members {
+            let at = member.number();
+            if at < flags.len() && is_in(flags[at]) {
                 self.put(*member)?;
             }
         }
         Ok(())
+    }
+
+    /// Puts the members of another set into the set. After `Memory` some of them came.
+    pub fn put_all(&mut self, other: &FlagSet<T>) -> Result<(), Memory>
+        ensures { OnOk result ((n : ℕ) → holds self.new n ≡ (holds self.old n || holds other.now n)) }
+    {
+        self.put_each(other.listed.as_slice(), other.flags.as_slice())
     }
 
     /// Takes all members out of the set. It costs as many steps as members came since the set was new or cleared.

@@ -9,7 +9,7 @@ use sat_model::lists::Lits;
 pub enum HeadKind {
     /// `p cnf`, the clauses of DIMACS.
     Cnf,
-    /// `p knf`, clauses and cardinality constraints.
+    /// `p knf`, clauses and cardinality constraints. No reader gives it yet: none of `Heads` has it.
     Knf,
     /// `p inccnf`, the clauses and queries of iCNF.
     Inc,

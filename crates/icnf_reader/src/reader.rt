@@ -75,6 +75,7 @@ enum Meaning {
 /// Reads the items of a source. Contracts see its words, where in the grammar they stand, and whether it is done.
 #[derive(Drop)]
 pub struct Reader {
+    // the allocator for the literals of statements
     alloc: Global,
     // the words still to come
     words: WordReader,

@@ -36,24 +36,33 @@ pub struct Options {
 // The names of the options that have a number.
 #[derive(Clone, Copy, Debug, PartialEq, Eq)]
 enum Name {
+    // `--conflicts`
     Conflicts,
+    // `--callbacks`
     Callbacks,
+    // `--steps`
     Steps,
 }
 
 // An item of the command line.
 #[derive(Clone, Copy, Debug, PartialEq, Eq)]
 enum Choice {
+    // An option with its number.
     Number(Name, u64),
+    // `--check`
     Check,
 }
 
 // The items that were met so far.
 #[derive(Clone, Copy, Debug, PartialEq, Eq)]
 struct Found {
+    // The number of `--conflicts`, if it was met.
     conflicts: Option<u64>,
+    // The number of `--callbacks`, if it was met.
     callbacks: Option<u64>,
+    // The number of `--steps`, if it was met.
     steps: Option<u64>,
+    // Whether `--check` was met.
     check: bool,
 }
 

@@ -19,7 +19,9 @@ mod tests;
 /// A source over a reader, as standard input. It tells no bytes, and counts the reads that failed.
 #[derive(Drop)]
 pub struct StdSource<R: Read + Drop> {
+    // What is read.
     reader: R,
+    // How many reads failed.
     faults: u64,
 }
 
@@ -64,7 +66,9 @@ impl<R: Read + Drop> Source for StdSource<R> {
 /// failed. A write that takes no byte has failed.
 #[derive(Drop)]
 pub struct StdSink<W: Write + Drop> {
+    // What is written to.
     writer: W,
+    // How many writes failed.
     faults: u64,
 }
 

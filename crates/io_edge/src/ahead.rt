@@ -15,8 +15,11 @@ pub const AHEAD: usize = 65_536;
 /// Bytes that were read and not yet used. Contracts see the list of them.
 #[derive(Drop)]
 pub struct Ahead {
+    // The buffer, `AHEAD` bytes long.
     buf: Vec<u8>,
+    // Where in it the bytes begin that were not yet used.
     start: usize,
+    // Where they end.
     end: usize,
 }
 

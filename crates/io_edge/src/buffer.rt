@@ -15,6 +15,7 @@ pub const ROOM: usize = 1024;
 pub struct Buffer {
     // the list is the first `len` of these
     bytes: [u8; ROOM],
+    // how many bytes the list has
     len: usize,
 }
 

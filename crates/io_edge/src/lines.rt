@@ -52,11 +52,17 @@ pub enum LineStop {
 /// Reads the lines of a source.
 #[derive(Drop)]
 pub struct LineReader {
+    // What was read from the source and not yet used.
     ahead: Ahead,
+    // The bytes of the line that the last call gave, without its LF.
     line: Vec<u8>,
+    // How many lines were given.
     number: u64,
+    // How many bytes these lines have, with their LFs.
     used: u64,
+    // Whether the source answered that its end was reached.
     ended: bool,
+    // Whether an end or a stop was answered.
     done: bool,
 }
 
@@ -172,9 +178,13 @@ fn size_of_line(len: usize, lf: bool) -> u64
 // Why a line is not gathered.
 #[derive(Clone, Copy, Debug, PartialEq, Eq)]
 enum Broken {
+    // The source failed.
     ReadFault,
+    // The line has too many bytes.
     TooLong,
+    // The input has too many.
     TooMuch,
+    // There was no memory.
     Memory,
 }
 

@@ -13,11 +13,17 @@ use std::marker::Model;
 /// A source in memory. It tells its bytes, and fails at the calls that are named.
 #[derive(Drop)]
 pub struct MemSource {
+    // All its bytes.
     bytes: Vec<u8>,
+    // How many of them were given.
     at: usize,
+    // The most bytes that a read gives.
     cut: usize,
+    // The numbers of the reads that fail, counted from 0.
     fails: Vec<u64>,
+    // How many reads there were.
     calls: u64,
+    // How many of them failed.
     faults: u64,
 }
 
@@ -97,11 +103,17 @@ impl Source for MemSource {
 /// A sink in memory. It tells what was written, and fails at the calls that are named and where no room is left.
 #[derive(Drop)]
 pub struct MemSink {
+    // The bytes that it took.
     bytes: Vec<u8>,
+    // How many more it takes.
     room: usize,
+    // The most bytes that a write takes.
     cut: usize,
+    // The numbers of the writes that fail, counted from 0.
     fails: Vec<u64>,
+    // How many writes there were.
     calls: u64,
+    // How many of them failed.
     faults: u64,
 }
 

@@ -16,9 +16,13 @@ const STEPS: u64 = 1_000_000;
 // What the two answers show.
 #[derive(Clone, Copy)]
 struct Seen {
+    // The answer to the first question.
     first: Outcome,
+    // Whether its model has coffee.
     has_coffee: bool,
+    // The answer to the second one.
     second: Outcome,
+    // Whether tea is among what fails together.
     blames_tea: bool,
 }
 

@@ -12,12 +12,11 @@ use Rattle.clause_store.specs.Stored.{Stored, keeps_firm, slot, slot_lits, is_fi
 use Rattle.clause_store.proofs.Slots.{FirmTrue-from, OthersTrue-from, FirmTrue-filled, FirmTrue-before, FirmTrue-freed, OthersTrue-freed}
 use Rattle.rule_kernel.specs.State.{State}
 use Rattle.rule_kernel.specs.Rules.{firm_clause, Applies, AddImplied, DropImplied, Park, SameButMarks, counted}
-use Rattle.rule_kernel.specs.Changes.{mentions}
-use Rattle.pass_terms.specs.Firm.{firm, stands}
+use Rattle.firm_terms.specs.Firm.{mentions, firm, stands}
 use Rattle.pass_terms.specs.Ruled.{IsKnown, Uses, Ruled, goes, removals_of, Models, stacked, stands_in, IsSingle, AreSingle, SameRedundant, Simplified, PassesSimplify}
 use Rattle.pass_terms.specs.Ruled.Uses.{implied, dropped, parked, unmarked}
 use Rattle.pass_terms.specs.Ruled.Ruled.{none, more}
-use Rattle.pass_terms.proofs.Standing.{stands_from, stands_filled, stands_freed}
+use Rattle.firm_terms.proofs.Standing.{stands_from, stands_filled, stands_freed}
 
 -- an entry of one literal
 abbrev entry_of : ℕ → List ℕ → List Entry
@@ -74,7 +73,7 @@ ruled_from frozen s _ (more t u a r) f m = ruled_from frozen s t a f (uses_from 
 -- rules bring no variable into the firm clauses
 uses_stands : (frozen : ℕ → Bool) (s t : State) (v : ℕ) → Uses frozen s t → stands (firm t.store) v ≡ true → stands (firm s.store) v ≡ true
 uses_stands frozen s t v (implied lits id known r) h =
-    elim (stands_filled s.store t.store id v lits r.store h) [ inl a ↦ a | inr b ↦ known v b ]
+    elim (stands_filled s.store t.store id v (firm_clause lits) r.store h) [ inl a ↦ a | inr b ↦ known v b ]
 uses_stands frozen s t v (dropped id r) h = stands_freed s.store t.store id v r.store h
 uses_stands frozen s t v (parked id x free r) h = stands_freed s.store t.store id v r.store h
 uses_stands frozen s t v (unmarked r) h = rw r.store at h

@@ -5,10 +5,9 @@ use Rattle.sat_terms.specs.Literal.{has, var_of}
 use Rattle.sat_terms.specs.Truth.{Assignment}
 use Rattle.redundancy.specs.Redundancy.{Entry, StackTrue}
 use Rattle.clause_store.specs.Stored.{Stored, slot, is_redundant, FirmTrue}
-use Rattle.rule_kernel.specs.Changes.{mentions}
+use Rattle.firm_terms.specs.Firm.{mentions, firm, stands}
 use Rattle.rule_kernel.specs.State.{State}
 use Rattle.rule_kernel.specs.Rules.{Applies, AddImplied, DropImplied, Park, SameButMarks}
-use Rattle.pass_terms.specs.Firm.{firm, stands}
 
 -- the variables of a clause stand in firm clauses
 abbrev pub IsKnown : State → List ℕ → Type 0

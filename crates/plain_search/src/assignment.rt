@@ -13,14 +13,18 @@ use std::marker::Model;
 /// A literal that was assigned, and whether it was decided.
 #[derive(Clone, Copy, Debug, PartialEq, Eq)]
 pub struct Step {
+    /// The literal.
     pub lit: Lit,
+    /// Whether it was decided.
     pub decision: bool,
 }
 
 /// An assignment of the variables 1 to some number: the literals that were assigned, one after another.
 #[derive(Drop)]
 pub struct Assignment {
+    // the value of each variable, at its number
     values: Vec<Option<bool>>,
+    // the literals that were assigned, oldest first
     trail: Vec<Step>,
     // all variables below this one have values
     low: usize,
@@ -94,7 +98,8 @@ impl Assignment {
         Some(step)
     }
 
-    /// A variable that has no value. All below the place where a call begins to look have one. Only the place where the next call begins to look may change.
+    /// A variable that has no value. All below the place where a call begins to look have one. Only the place where the next
+    /// call begins to look may change.
     pub fn first_free(&mut self) -> Option<Var>
         ensures same { self.new ≡ self.old }
         ensures some { IfSome result (λ v. (v ≤ self.old.vars) × (value_in self.old.steps (pos_lit v) ≡ None)) }

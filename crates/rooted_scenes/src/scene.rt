@@ -22,8 +22,11 @@ use trail_state::trail::Trail;
 /// A store and a trail on which each implied literal has its reason. Contracts see both.
 #[derive(Drop)]
 pub struct Scene {
+    // The allocator for the literals of clauses.
     alloc: Global,
+    // The clauses.
     store: Store,
+    // The trail, whose implied literals have their reasons in the store.
     trail: Trail,
 }
 

@@ -1,4 +1,4 @@
-//! The reason of a literal on a trail.
+//! The reason of a literal on a trail, and whether it was decided.
 //!
 //! Both walks over a trail, that of the analysis of conflicts and that of the cores, put for an implied literal the other literals
 //! of its reason. What they need of a reason is said here once: it holds the literal, its other literals are false at earlier
@@ -26,6 +26,7 @@ pub fn reason_at<'a>(store: &'a Store, trail: &Trail, place: usize) -> &'a [Lit]
     ensures known { Implies (Known store.now) result.now }
     ensures from { AllStandIn store.now result.now }
 {
+    // A trail has fewer than 2^32 places.
     trail.law_room();
     match trail.reason_at(place as u32) {
         Reason::Clause(id) => store.get(id),
@@ -39,6 +40,7 @@ pub fn is_decision(trail: &Trail, place: usize) -> bool
     requires { place < length trail.now.steps }
     ensures { IsTrue result ↔ ((step trail.now.steps place).reason ≡ Decision) }
 {
+    // A trail has fewer than 2^32 places.
     trail.law_room();
     match trail.reason_at(place as u32) {
         Reason::Decision => true,

@@ -3,8 +3,7 @@ use Rattle.std.proofs.Common.{◌≡◌, ℕ, ◌+◌, ◌<◌, Bool, true, fals
 use Rattle.std.specs.List.{remove}
 use Rattle.std.proofs.lemmas.Bool.{false≢true}
 use Rattle.sat_terms.specs.Truth.{Assignment, Implies}
-use Rattle.sat_terms.specs.Normal.{IsNormal}
-use Rattle.redundancy.specs.Redundancy.{Entry, Witnesses, Chain, Clean, And, IsEntry, entry, no_entry}
+use Rattle.redundancy.specs.Redundancy.{Entry, Witnesses, Chain, Clean, And, entry, no_entry}
 use Rattle.redundancy.proofs.Chains.{Witnesses-same, Chain-same, Chain-add, Chain-park, Chain-restore}
 use Rattle.clause_store.specs.Stored.{Stored, slot, slot_lits, is_firm, is_redundant, keeps_firm, SlotTrue, FirmTrue, OthersTrue, Fills, Frees, SameSlots}
 use Rattle.clause_store.proofs.Slots.{FirmTrue-from, OthersTrue-from, FirmTrue-filled, FirmTrue-before, FirmTrue-freed, OthersTrue-freed, FirmTrue-same}

@@ -2,3 +2,4 @@ pub mod Chained
 pub mod Examples
 pub mod Keeping
 pub mod Marking
+pub mod Promising

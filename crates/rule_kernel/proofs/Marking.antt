@@ -1,7 +1,7 @@
 -- Laws of marks and of the room for them.
-use Rattle.std.proofs.Common.{◌≡◌, ℕ, ◌*◌, ◌/◌, ◌<◌, ◌≤◌, true, List, length, get_or, Option, Some, inl, inr, ap, ◌∙◌, arith}
+use Rattle.std.proofs.Common.{◌≡◌, ℕ, ◌*◌, ◌<◌, ◌≤◌, true, List, length, get_or, Option, Some, inl, inr, arith}
 use Rattle.std.proofs.lemmas.Bool.{cases_eq, false≢true}
-use Rattle.sat_terms.specs.Literal.{has, neg, var_of}
+use Rattle.sat_terms.specs.Literal.{neg, var_of}
 use Rattle.witness_stack.proofs.Counted.{has_here}
 use Rattle.clause_store.specs.Stored.{Stored, slot, slot_lits, is_firm, Fills, Frees, SameSlots}
 use Rattle.rule_kernel.specs.Changes.{HasRoom}

@@ -1,6 +1,6 @@
 -- What is marked as changed: variables and literals.
 use Rattle.std.specs.List.{list_any}
-use Rattle.std.specs.Prelude.{◌≡◌, ◌<◌, ◌≤◌, ◌*◌, ◌==◌, ◌||◌, ℕ, Bool, true, List}
+use Rattle.std.specs.Prelude.{◌≡◌, ◌<◌, ◌==◌, ◌||◌, ℕ, Bool, true, List}
 use Rattle.sat_terms.specs.Literal.{has, neg, var_of}
 use Rattle.firm_terms.specs.Firm.{mentions}
 

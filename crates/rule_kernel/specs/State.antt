@@ -1,5 +1,5 @@
 -- What contracts see of a kernel.
-use Rattle.std.specs.Prelude.{◌≡◌, ◌≢◌, ◌<◌, ℕ, Bool, true, false, List, length, Option}
+use Rattle.std.specs.Prelude.{◌≡◌, ◌≢◌, ◌<◌, ℕ, true, false, List, length, Option}
 use Rattle.sat_terms.specs.Literal.{has}
 use Rattle.redundancy.specs.Redundancy.{Entry, Chain}
 use Rattle.clause_store.specs.Stored.{Stored, FirmTrue, slot, slot_lits, is_firm}

@@ -59,7 +59,7 @@ impl Frozen {
     }
 
     // Takes the variables of another set in place of its own. After `Memory` it may have any part of them.
-    pub(crate) fn become(&mut self, other: &Frozen) -> Result<(), Memory>
+    pub(crate) fn copy_from(&mut self, other: &Frozen) -> Result<(), Memory>
         ensures { OnOk result ((v : ℕ) → is_frozen self.new v ≡ is_frozen other.now v) }
     {
         self.vars.clear();

@@ -16,7 +16,7 @@
 //! - `learn` and `forget` touch no firm clause.
 //!
 //! No search and no pass changes firm clauses but by these rules, so none of them need speak of the chain.
-ghost use Rattle.std.specs.Prelude.{◌≡◌, ◌+◌, ◌<◌, ◌≤◌, ◌↔◌, ◌==◌, ◌&&◌, ℕ, not, [], true, length, drop, min, ◌^◌, slice_index_or, IfOk, OnOk, OnErr, IsTrue};
+ghost use Rattle.std.specs.Prelude.{◌≡◌, ◌≢◌, ◌+◌, ◌<◌, ◌≤◌, ◌↔◌, ◌==◌, ◌&&◌, ℕ, not, [], true, false, length, drop, min, ◌^◌, slice_index_or, IfOk, OnOk, OnErr, IsTrue};
 ghost use Rattle.std.specs.List.{swap_remove};
 ghost use Rattle.sat_terms.specs.Literal.{has};
 ghost use Rattle.sat_terms.specs.Truth.{values, Implies};
@@ -79,12 +79,12 @@ pub struct Kernel {
 
 impl Model for Kernel {
     ghost use Rattle.rule_kernel.specs.Changes.{marked};
-    ghost use Rattle.rule_kernel.specs.Waiting.{waiting};
+    ghost use Rattle.rule_kernel.specs.Waiting.{waiting as waiting_of};
     ghost use Rattle.rule_kernel.specs.State.{State, IsKept};
 
     ghost Value = { State };
 
-    ghost view = { λ k. record { store = k.store; stack = k.stack; removals = k.removals; restores = k.restores; marked = marked k.changes; waiting = waiting k.waiting; settled = k.settled } };
+    ghost view = { λ k. record { store = k.store; stack = k.stack; removals = k.removals; restores = k.restores; marked = marked k.changes; waiting = waiting_of k.waiting; settled = k.settled } };
 
     ghost invariant = { λ k. IsKept k.store k.stack k.changes k.waiting k.settled };
 }
@@ -355,7 +355,13 @@ impl Kernel {
         ensures ok { IfOk result (λ id. Applies (Add lits.now id) self.old self.new) }
         ensures err { OnErr result (self.new ≡ self.old) }
     {
-        let id = enter(&mut self.store, &mut self.changes, &mut self.waiting, &mut self.settled, lits)?;
+        let id = enter(
+            &mut self.store,
+            &mut self.changes,
+            &mut self.waiting,
+            &mut self.settled,
+            lits,
+        )?;
         Ok(id)
     }
 
@@ -366,7 +372,13 @@ impl Kernel {
         ensures ok { IfOk result (λ id. Applies (AddImplied lits.now id) self.old self.new) }
         ensures err { OnErr result (self.new ≡ self.old) }
     {
-        let implied = enter(&mut self.store, &mut self.changes, &mut self.waiting, &mut self.settled, lits)?;
+        let implied = enter(
+            &mut self.store,
+            &mut self.changes,
+            &mut self.waiting,
+            &mut self.settled,
+            lits,
+        )?;
         Ok(implied)
     }
 
@@ -404,7 +416,13 @@ impl Kernel {
         ensures err { OnErr result (self.new ≡ self.old) }
     {
         self.stack.law_witnesses();
-        let id = enter(&mut self.store, &mut self.changes, &mut self.waiting, &mut self.settled, self.stack.clause(k))?;
+        let id = enter(
+            &mut self.store,
+            &mut self.changes,
+            &mut self.waiting,
+            &mut self.settled,
+            self.stack.clause(k),
+        )?;
         self.stack.take_out(k);
         self.restores = one_more(self.restores);
         Ok(id)

@@ -3,7 +3,7 @@
 //! Whether literals are equivalent, and whether vivification shortens a clause, depends on all clauses at once, so no mark can say where to
 //! look again. But neither comes about where clauses only go: there are fewer implications then, and less is propagated. So it is remembered
 //! that a pass found nothing any more, until a clause comes, and with it, for the equivalences, which variables were frozen then.
-ghost use Rattle.std.specs.Prelude.{◌≡◌, ◌→◌, ℕ, true, false, IsTrue};
+ghost use Rattle.std.specs.Prelude.{◌≡◌, ℕ, true, false, IsTrue};
 ghost use Rattle.rule_kernel.specs.Frozen.{is_frozen};
 ghost use Rattle.rule_kernel.specs.Settled.{unsettled};
 
@@ -80,6 +80,6 @@ impl Settled {
         ensures frozen { self.new.untied ≡ true → (v : ℕ) → is_frozen self.new.frozen v ≡ is_frozen frozen.now v }
         ensures calm { self.new.calm ≡ self.old.calm }
     {
-        self.untied = self.frozen.become(frozen).is_ok();
+        self.untied = self.frozen.copy_from(frozen).is_ok();
     }
 }

@@ -40,6 +40,17 @@ impl Model for Waiting {
     ghost invariant = { λ w. w.due.room ≤ w.fresh.room };
 }
 
+// Puts ids that there is room for on a list.
+fn put_each(list: &mut WorkList<ClauseId>, ids: &[ClauseId])
+    requires { (id : ℕ) → has ids.now id ≡ true → id < list.old.room }
+    ensures members { (k : ℕ) → has list.new.members k ≡ (has list.old.members k || has ids.now k) }
+    ensures room { list.new.room ≡ list.old.room }
+{
+    for id in ids {
+        list.put(*id);
+    }
+}
+
 impl Waiting {
     // Nothing waits. It takes no memory.
     pub(crate) fn new(alloc: Global) -> Waiting
@@ -127,8 +138,6 @@ impl Waiting {
         ensures room { self.new.room ≡ self.old.room }
     {
         self.fresh.clear();
-        for id in ids {
-            self.due.put(*id);
-        }
+        put_each(&mut self.due, ids);
     }
 }

@@ -9,6 +9,7 @@ use std::marker::Model;
 
 /// A list of literals. Up to four lie in the value itself, and more on the heap.
 pub struct Lits {
+    // The literals, in order.
     lits: SmallVec<Lit, 4>,
 }
 
@@ -65,7 +66,9 @@ impl Lits {
 /// A list of clauses.
 #[derive(Drop)]
 pub struct Clauses {
+    // The allocator for clauses that are longer than four literals.
     alloc: Global,
+    // The clauses, in order.
     clauses: Vec<Lits>,
 }
 
@@ -124,6 +127,7 @@ impl Clauses {
 /// The number of a stored clause, below 2^32: ids fill lists of occurrences, watches and reasons, where half a word counts.
 #[derive(Clone, Copy, Debug, Default, PartialEq, Eq, PartialOrd, Ord, Hash)]
 pub struct ClauseId {
+    // The number.
     index: u32,
 }
 
@@ -159,6 +163,7 @@ impl ClauseId {
 /// A list of ids of clauses.
 #[derive(Drop)]
 pub struct Ids {
+    // The ids, in order.
     ids: Vec<ClauseId>,
 }
 

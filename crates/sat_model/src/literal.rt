@@ -13,6 +13,7 @@ pub const MAX_LITERALS: u64 = 134_217_728;
 /// A variable. Contracts see its number, from 1 to `MAX_VAR`.
 #[derive(Clone, Copy, Debug, PartialEq, Eq, PartialOrd, Ord, Hash)]
 pub struct Var {
+    // From 1 to `MAX_VAR`.
     number: u32,
 }
 
@@ -74,6 +75,7 @@ impl Var {
 /// A variable or its negation. Contracts see its code, which is `2v` for the variable `v` and `2v + 1` for its negation.
 #[derive(Clone, Copy, Debug, PartialEq, Eq, PartialOrd, Ord, Hash)]
 pub struct Lit {
+    // Twice the variable, and one more for the negation.
     code: u32,
 }
 

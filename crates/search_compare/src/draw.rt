@@ -9,6 +9,7 @@ use std::test::Fail;
 /// Numbers that are drawn one after another (Knuth's linear congruential generator).
 #[derive(Drop)]
 pub(crate) struct Draw {
+    // What the next number is made of.
     state: u64,
 }
 

@@ -51,6 +51,7 @@ fn show(trail: &Trail, model: &mut [bool])
     ensures size { length model.new ≡ length model.old }
     ensures shown { Shows model.new trail.now.steps }
 {
+    // Each variable of the trail is declared, so it has its place in the model.
     trail.law_room();
     model.fill(false);
     for lit in trail.lits() {
@@ -70,9 +71,11 @@ fn assume(alloc: Global, state: &mut Core, assumptions: &[Lit], lit: Lit) -> Res
     ensures passed { (cursor : Cursor) → Passed assumptions.now state.old cursor → Passed assumptions.now state.new cursor }
     ensures tally { state.new.tally ≡ state.old.tally }
 {
+    // The lists follow the trail with the decision too.
     state.watches.law_following();
     if state.trail.value(lit).is_none() {
         state.trail.decide(lit);
+        // The measure counts as many places as variables are declared: the trail fits there.
         state.trail.law_room();
         return Ok(Turn::Goes);
     }
@@ -92,14 +95,17 @@ fn decide(state: &mut Core, assumptions: &[Lit]) -> Turn
     ensures passed { (cursor : Cursor) → Passed assumptions.now state.old cursor → Passed assumptions.now state.new cursor }
 {
     let _ = assumptions;
+    // The lists follow the trail with the decision too.
     state.watches.law_following();
     match state.order.pick(&state.trail) {
         Some(lit) => {
             state.trail.decide(lit);
+            // The measure counts as many places as variables are declared: the trail fits there.
             state.trail.law_room();
             Turn::Goes
         }
         None => {
+            // No variable stands twice on the trail, so the model shows the value of each.
             state.trail.law_shape();
             show(&state.trail, state.model.as_mut_slice());
             Turn::Ends(Found::Sat)

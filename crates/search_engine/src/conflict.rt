@@ -67,6 +67,7 @@ fn count(policy: &mut Policy, order: &mut Order, met: &[Lit], glue: u32) -> bool
     policy.on_conflict(glue);
     order.bump_all(met);
     order.next_conflict();
+    // The order changes last: the conflict bumps what decides in the half to which it belongs.
     let stable = policy.is_stable();
     order.stable(stable);
     let turned = stable != was_stable;
@@ -89,6 +90,7 @@ pub(crate) fn learn_from(
     ensures budget { state.new.tally.budget ≡ state.old.tally.budget }
     ensures counts { KeepsCount state.old.tally state.new.tally }
 {
+    // Levels rise along the trail, and no variable stands on it twice.
     state.trail.law_shape();
     // A propagated clause may be false already below the current level.
     let top = highest(&state.trail, state.store.get(conflict));
@@ -97,6 +99,7 @@ pub(crate) fn learn_from(
         return Ok(Turn::Ends(Found::Unsat(Lits::new(alloc))));
     }
     state.order.back_to(&mut state.trail, top);
+    // The trail after going back: its variables are declared, and its shape is that of every trail.
     state.trail.law_room();
     state.watches.cut(&state.trail);
     state.trail.law_shape();
@@ -116,6 +119,7 @@ pub(crate) fn learn_from(
                 learned.glue,
             );
             assert_learned(state, assumptions, learned)?;
+            // The measure counts as many places as variables are declared: the trail fits there.
             state.trail.law_room();
             restart(state, assumptions, back);
             reduce(state, assumptions)?;
@@ -160,11 +164,13 @@ fn store_attached(
     ensures declared { watches.new.declared ≡ watches.old.declared }
     ensures following { (t : Trace) → Follows watches.old store.old t → Follows watches.new store.new t }
 {
+    // The new clause is not attached yet, so the lists follow the store with it too.
     watches.law_following();
     let id = store.add(lits, Keep::Redundant, glue)?;
     match watches.attach(store, id) {
         Ok(()) => Ok(id),
         Err(Memory) => {
+            // It was not attached, so they follow the store without it.
             watches.law_following();
             store.remove(id);
             Err(Memory)
@@ -190,6 +196,8 @@ fn assert_learned(state: &mut Core, assumptions: &[Lit], learned: Learned) -> Re
     ensures policy { state.new.policy ≡ state.old.policy }
 {
     let _ = assumptions;
+    // What the trail is before it goes back: no variable twice, each declared. And the lists follow
+    // it whatever is stored beside the attached clauses.
     state.trail.law_shape();
     state.trail.law_room();
     state.watches.law_following();
@@ -201,6 +209,7 @@ fn assert_learned(state: &mut Core, assumptions: &[Lit], learned: Learned) -> Re
     )?;
     state.order.back_to(&mut state.trail, learned.back_level);
     state.watches.cut(&state.trail);
+    // The lists follow the trail with the asserted literal too, which they have not visited.
     state.watches.law_following();
     let Some(lit) = state.tally.owes() else {
         unreachable!()

@@ -45,6 +45,7 @@ fn forget_all(state: &mut Core, assumptions: &[Lit], ids: &Ids)
 {
     let _ = assumptions;
     state.watches.detach_all(&state.store, ids);
+    // What leaves the store is attached no more, so the lists follow the store without it.
     state.watches.law_following();
     remove_all(&mut state.store, ids);
 }
@@ -59,6 +60,7 @@ fn compact(state: &mut Core, assumptions: &[Lit]) -> Result<(), Memory>
     ensures tally { state.new.tally ≡ state.old.tally }
 {
     let _ = assumptions;
+    // Each id names what it did, so the lists follow the store after it was compacted.
     state.watches.law_following();
     state.store.compact()?;
     state.watches.compact()
@@ -76,6 +78,7 @@ pub(crate) fn reduce(state: &mut Core, assumptions: &[Lit]) -> Result<(), Memory
     if !state.policy.wants_reduce() {
         return Ok(());
     }
+    // What a reduction names, each id once, is redundant, and no reason of the trail.
     state.policy.law_forgets_little();
     let ids = state.policy.reduce(&state.store, &state.trail)?;
     forget_all(state, assumptions, &ids);

@@ -89,12 +89,14 @@ impl Core {
         ensures listed { self.new.listed.items ≡ self.old.listed.items }
         ensures tally { self.new.tally ≡ self.old.tally }
     {
+        // Declaring puts no literal on the trail, so the lists follow it still.
         self.watches.law_following();
         fit(&mut self.model, vars)?;
         if let Some(last) = Var::new(vars) {
             // The order comes before the trail, whose variables it must know.
             self.order.declare(last)?;
             self.watches.declare(last)?;
+            // The same of the lists, which are longer now.
             self.watches.law_following();
             self.trail.declare(last)?;
         }

@@ -74,7 +74,9 @@ pub fn search(
     ensures budget { state.new.tally.budget ≡ budget.conflicts }
     ensures counted { CountsFrom state.old.tally.total state.new.tally }
 {
+    // At the root nothing was decided, so no decision stands before an assumption.
     state.trail.law_shape();
+    // The total is asked for its range alone: the rise is counted from a number up to 2^62.
     state.tally.total();
     state.tally.start(budget.conflicts);
     state.policy.start();

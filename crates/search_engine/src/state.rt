@@ -121,6 +121,7 @@ impl Core {
         ensures order { self.new.order ≡ self.old.order }
         ensures tally { self.new.tally ≡ self.old.tally }
     {
+        // The new clause is not attached, so the lists follow the store with it too.
         self.watches.law_following();
         // The place in the list comes first, so that nothing has to be undone.
         self.listed.reserve(1)?;

@@ -18,7 +18,9 @@ use std::cmp::Reverse;
 // A clause that may be forgotten, the greatest glue first, and at equal glue the older id first.
 #[derive(Clone, Copy, PartialEq, Eq, PartialOrd, Ord)]
 pub(crate) struct Candidate {
+    // The glue. It stands first, since the order of fields is that of sorting.
     glue: Reverse<u32>,
+    // The id of the clause.
     id: ClauseId,
 }
 

@@ -47,21 +47,27 @@ const FIRST_LENGTH: u64 = 1000;
 /// Contracts see all of it as numbers.
 #[derive(Drop)]
 pub struct Policy {
+    // The allocator for the lists of clauses to forget.
     alloc: Global,
-    // The phase of the solve, from 0, and whether its stable half has begun.
+    // The phase of the solve, from 0.
     phase: u32,
+    // Whether its stable half has begun.
     stable: bool,
-    // How many conflicts the half has had, and how many it has in all.
+    // How many conflicts the half has had.
     gone: u64,
+    // How many conflicts it has in all.
     length: u64,
-    // How many conflicts there ever were, and the averages of their glues.
+    // How many conflicts there ever were.
     conflicts: u64,
+    // The fast average of their glues, with 16 binary places.
     fast: u64,
+    // The slow one.
     slow: u64,
     // The conflicts since the last restart of the solve.
     unrestarted: u64,
-    // The reductions of the solve, and the conflicts since the last one of any solve.
+    // The reductions of the solve.
     reductions: u64,
+    // The conflicts since the last reduction of any solve.
     unreduced: u64,
 }
 

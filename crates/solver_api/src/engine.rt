@@ -74,6 +74,7 @@ fn find(
     ensures declared { core.new.order.declared ≤ vars }
     ensures standing { IsStanding core.new }
 {
+    // The total is asked for its range alone: the rise is counted from a number up to 2^62.
     core.tally.total();
     core.tally.start(budget.conflicts);
     core.resume(vars)?;
@@ -136,6 +137,7 @@ impl Engine {
     pub(crate) fn law_total(&self)
         ensures { self.now.tally.total ≤ max_number }
     {
+        // The total is asked for its range alone.
         self.core.tally.total();
     }
 

@@ -20,6 +20,7 @@ pub enum GivenPart {
 /// What a solver was given, in order. A solver alone fills it, and with clauses alone.
 #[derive(Drop)]
 pub struct Givens {
+    // The parts, in order.
     parts: Vec<GivenPart>,
 }
 

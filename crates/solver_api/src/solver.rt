@@ -34,13 +34,15 @@ use std::mem;
 /// nothing. After `Memory` no answer is shown, and what was given is as before; a solve that was
 /// refused has dropped its assumptions, and another call keeps them.
 pub struct Solver {
+    // The allocator for lists of assumptions, cores and models.
     alloc: Global,
     // The stored clauses and the search.
     engine: Engine,
     // The parts that were given, in order.
     given: Givens,
-    // The assumptions for the next solve, and those of the last one that was not refused.
+    // The assumptions for the next solve.
     pending: Lits,
+    // The assumptions of the last solve that was not refused.
     queried: Lits,
     // How many literals accepted calls have handed over.
     taken: u64,
@@ -52,6 +54,7 @@ pub struct Solver {
     mode: Mode,
     // What the last solve counted.
     stats: Stats,
+    // What ties the fields above together, between any two calls.
     ghost stands: { Stands engine given pending queried taken greatest settled mode },
 }
 
@@ -214,6 +217,7 @@ impl Solver {
         self.stats = Stats::of_conflicts(0);
         let pending = mem::replace(&mut self.pending, Lits::new(self.alloc));
         if self.settled {
+            // Nothing is counted here, and the total is in its range.
             self.engine.law_total();
             self.queried = pending;
             self.mode = Mode::Unsat(Failed::empty(self.alloc));

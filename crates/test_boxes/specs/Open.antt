@@ -1,37 +1,32 @@
 -- What boxes mean that have no clause: those that admit everything, and the one that admits
 -- nothing.
-use Rattle.std.specs.Prelude.{ℕ, ◌≡◌, ◌≤◌, ◌++◌, true, false, List, [], length}
+use Rattle.std.specs.Prelude.{ℕ, ◌≡◌, ◌++◌, Bool, true, false, List, [], ◌∷◌, Option, Some, None}
 use Rattle.user_propagator.specs.Board.{Board}
 use Rattle.user_propagator.specs.Meaning.{Meaning}
+use Rattle.user_propagator.specs.Nothing.{no_meaning}
+use Rattle.test_boxes.specs.declared.asking.Moment.{Moment}
+use Rattle.test_boxes.specs.declared.asking.Moment.TheVariants.{Propagate, Check}
 
--- It admits everything, is in step with every seen trail, explains nothing and need not be
--- steady.
+-- It means what a propagator without constraints does, but need not be steady.
 abbrev pub open_meaning : ℕ → Meaning
-open_meaning asked = record {
-  admits = λ _. true;
-  scope = [];
-  in_step = λ _. true;
-  explains = λ _ _. false;
-  steady = false;
-  kinds = [];
-  asked = asked;
-  accepted = 0;
-}
+open_meaning asked = record (no_meaning asked) { steady = false }
 
 -- It admits nothing, so that every clause follows from it, also the empty one.
 abbrev pub closed_meaning : ℕ → Meaning
-closed_meaning asked = record {
-  admits = λ _. false;
-  scope = [];
-  in_step = λ _. true;
-  explains = λ _ _. false;
-  steady = true;
-  kinds = [];
-  asked = asked;
-  accepted = 0;
-}
+closed_meaning asked = record (no_meaning asked) { admits = λ _. false }
 
--- At most one variable was asked for, and nothing else changed.
-abbrev pub HasAsked : Board → Board → Type 0
-HasAsked was now =
-    (vs : List ℕ) × (length vs ≤ 1) × (now ≡ record was { wanted = was.wanted ++ vs })
+abbrev pub is_same : Moment → Moment → Bool
+is_same Propagate Propagate = true
+is_same Propagate Check = false
+is_same Check Propagate = false
+is_same Check Check = true
+
+-- what is asked for: the variable, if it is time and it is wanted still
+abbrev pub wishes : Bool → Option ℕ → List ℕ
+wishes true (Some v) = v ∷ []
+wishes true None = []
+wishes false wanted = []
+
+-- these variables were asked for, and nothing else changed
+abbrev pub HasAsked : List ℕ → Board → Board → Type 0
+HasAsked vs was now = now ≡ record was { wanted = was.wanted ++ vs }

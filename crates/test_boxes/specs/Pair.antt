@@ -7,7 +7,7 @@ use Rattle.sat_terms.specs.Literal.{has, neg, var_of}
 use Rattle.sat_terms.specs.Truth.{Assignment, lit_true, clause_true}
 use Rattle.sat_terms.proofs.Models.{lit_true_pos, lit_true_neg}
 use Rattle.user_propagator.specs.declared.seen.Seen.{Seen}
-use Rattle.user_propagator.specs.Board.{Board, trail_value, with_handed}
+use Rattle.user_propagator.specs.Board.{Board, empty_board, trail_value, with_handed}
 use Rattle.user_propagator.specs.Meaning.{Meaning, DependsOnScope}
 
 -- the clause of two literals
@@ -84,3 +84,11 @@ pub record IsDue (b : Board) (from to : ℕ) : Type 0 where
   pub known : has b.observed (var_of to) ≡ true
   pub premise : trail_value b.seen (neg from) ≡ Some false
   pub free : trail_value b.seen to ≡ None
+
+-- a desk on which the variables 1 and 2 are observed, and false
+abbrev pub both_false : Board
+both_false = record empty_board {
+  observed = 1 ∷ 2 ∷ [];
+  seen = record { lit = 3; level = 0; decision = false }
+      ∷ record { lit = 5; level = 0; decision = false } ∷ [];
+}

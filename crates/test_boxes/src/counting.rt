@@ -18,10 +18,13 @@ use user_propagator::theory::Theory;
 /// Counts of calls, shared by all its clones.
 #[derive(Drop)]
 pub struct Calls {
-    // Calls of `propagate`, `decide` and `check`, and all callbacks.
+    // Calls of `propagate`.
     propagate: Rc<Cell<u64>>,
+    // Calls of `decide`.
     decide: Rc<Cell<u64>>,
+    // Calls of `check`.
     check: Rc<Cell<u64>>,
+    // All callbacks.
     all: Rc<Cell<u64>>,
 }
 

@@ -1,4 +1,24 @@
 //! A box that implies, explains and hands a clause: each kind of work that a propagator can do.
+//!
+//! It knows one clause, that `from` implies `to`, and uses it in each way in which a propagator can
+//! use what it knows. One clause of two literals is the least with which all of that can be done,
+//! so that a mistake in whoever drives the box shows in a test of two variables.
+//!
+//! At each `propagate` it reads the seen trail on its desk. Where `from` is true and `to` is of an
+//! observed variable without a value, it implies `to`. Where both literals of the clause are false,
+//! it hands the clause, as an external propagator does at a conflict. `reason` answers with the
+//! clause, its own literal first: `from` was true at every place at which `to` is explained, so the
+//! other literal is false there. At a model the clause is tested: where it is true the model
+//! passes, and else the clause is handed, which refutes the model.
+//!
+//! It is steady: what it admits is fixed by its two literals, and only the count of its callbacks
+//! changes. So it may hand nothing but a clause that is false or unit on the seen trail, and may
+//! ask for no variable. Where a model makes the clause false and one of its variables is not
+//! observed, the laws leave it no answer but `Memory`; a driver that observes the scope never
+//! meets that.
+//!
+//! The tests show what is implied with nothing observed, behind `from`, and behind `from` and the
+//! negation of `to`, and the clause that is handed there.
 ghost use Rattle.std.specs.Prelude.{◌≡◌, true, OnOk, OnErr};
 ghost use Rattle.sat_terms.specs.Literal.{neg as opposite};
 ghost use Rattle.user_propagator.specs.Meaning.{Admitted, Refused, KeptByAdmit};
@@ -19,8 +39,9 @@ use user_propagator::theory::Theory;
 /// explains it by the clause of both, and hands that clause where it is false.
 #[derive(Drop)]
 pub struct Imply {
-    // The literal that implies, and the one that is implied.
+    // The literal that implies.
     from: Lit,
+    // The literal that is implied.
     to: Lit,
     // How many callbacks there were.
     asked: u64,

@@ -1,4 +1,22 @@
 //! One clause of two literals, as Imply and Reject know it.
+//!
+//! Both boxes hand their clause where the seen trail makes it false, and must do so under the same
+//! law: they are steady, and a steady propagator hands in a callback only clauses that are false or
+//! unit on the seen trail, over observed variables. That is tested here, once for both.
+//!
+//! A literal is lost where its variable is observed and the seen trail makes it false. The clause
+//! is broken where both of its literals are lost, and then it is handed, not to be forgotten. The
+//! answer says whether it was, so that a box that is asked about a model knows whether it refuted
+//! the model.
+//!
+//! Why this is enough: a broken clause is false on the seen trail, its variables are observed, and
+//! every assignment that the box admits makes it true, as admitting is just that. So the clause is
+//! within reach, fair and quiet, which is all that the law of a callback asks of a handed clause.
+//! Whether a variable is observed is asked beside the value, though one with a value on the seen
+//! trail always is: the law speaks of observed variables, and the question costs one look.
+//!
+//! Left out: a clause that is unit might be handed too. Imply implies its literal instead, and
+//! Reject keeps still until a model comes.
 ghost use Rattle.std.specs.Prelude.{◌≡◌, true, false, Some, IfOk, OnErr};
 ghost use Rattle.sat_terms.specs.Literal.{has, var_of};
 ghost use Rattle.user_propagator.specs.Board.{trail_value};

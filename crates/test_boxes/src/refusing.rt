@@ -1,4 +1,22 @@
 //! A box that no assignment satisfies, and that says so only when a model is found.
+//!
+//! A propagator may turn out to admit nothing at all, and whoever drives it must then answer that
+//! there is no model, though the clauses alone have one. The shortest way to say so is the empty
+//! clause. It is also one at which a driver may go wrong: it has no literal to watch, none whose
+//! level to go back to, and none to observe.
+//!
+//! The box says nothing in the search: it implies no literal, decides none, and is in step with
+//! every seen trail. When it is asked about a model, whatever the model is, it hands the empty
+//! clause and refuses. Where the desk has no memory for the clause it answers `Memory`, and has
+//! refused nothing.
+//!
+//! Why it is lawful: it admits no assignment, so every clause follows from what it admits, also the
+//! empty one. The empty clause has no literal, so nothing in it has to be observed; it is false on
+//! every seen trail, so that a steady box may hand it; and it is false in every model, so that it
+//! refutes the one that was asked about. That no assignment is admitted depends on no variable: the
+//! scope is empty.
+//!
+//! The tests show that a model is refused where nothing is observed, by a clause of no literals.
 ghost use Rattle.std.specs.Prelude.{◌≡◌, ℕ, refl, OnOk, OnErr};
 ghost use Rattle.user_propagator.specs.Meaning.{Admitted, Refused, KeptByAdmit, CalledBack};
 ghost use Rattle.user_propagator.specs.Meaning.{StandsAt, IsReasonGiven};

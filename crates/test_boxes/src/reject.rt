@@ -1,4 +1,23 @@
 //! A box that knows a clause and says so only at the end, by refusing models.
+//!
+//! Some propagators can judge a whole assignment and no part of one, as one that runs a simulation.
+//! They imply nothing and let the search go on; what they know comes out as clauses, one for each
+//! model that they refuse. This box is such a one over a clause of two literals, so that whoever
+//! drives it has to take a clause at the very end of a search, go back, and go on.
+//!
+//! Until then it does nothing but count its callbacks: it decides and implies nothing, and explains
+//! nothing. Asked about a model it tests its clause. Where the clause is true the model passes; else
+//! the clause is handed, and the model is refused.
+//!
+//! Why it is lawful: what it admits is what makes its clause true, so a model passes exactly where
+//! it is admitted, and a refused one is refuted by the clause that was handed in that call. A driver
+//! asks only when every observed variable has a value, with which the model agrees: so if the
+//! variables are observed, a clause that is false in the model is false on the seen trail too, and a
+//! steady box may hand it. If one of them is not observed it may not, nor may it ask for it; it then
+//! answers `Memory`, which a driver that observes the scope never meets.
+//!
+//! Imply, beside it, has the same clause and speaks as soon as it can. The tests show that a model
+//! passes which makes the clause true.
 ghost use Rattle.std.specs.Prelude.{◌≡◌, ℕ, OnOk, OnErr};
 ghost use Rattle.user_propagator.specs.Meaning.{Admitted, Refused, KeptByAdmit, CalledBack};
 ghost use Rattle.user_propagator.specs.Meaning.{StandsAt, IsReasonGiven};
@@ -19,8 +38,9 @@ use user_propagator::theory::Theory;
 /// model makes it false.
 #[derive(Drop)]
 pub struct Reject {
-    // The two literals.
+    // One literal of the clause.
     first: Lit,
+    // The other one.
     second: Lit,
     // How many callbacks there were.
     asked: u64,

@@ -1,8 +1,9 @@
 //! Each box on desks driven by hand, as a solver would drive them: what it implies, hands, asks
 //! for and refuses.
-ghost use Rattle.std.specs.Prelude.{◌≡◌, IsTrue};
+ghost use Rattle.std.specs.Prelude.{◌≡◌, IsTrue, IfOk};
 ghost use Rattle.user_propagator.specs.Board.{empty_board};
 ghost use Rattle.user_propagator.specs.Meaning.{CanPut, InStep};
+ghost use Rattle.test_boxes.specs.Pair.{both_false};
 
 use crate::asking::{Asking, Moment};
 use crate::counting::{Calls, Counting};
@@ -112,6 +113,27 @@ fn judged<T: Theory>(theory: &mut T, alloc: Global) -> Result<(bool, Option<usiz
     Ok((passes, clause_len(&desk), wanted(&desk)))
 }
 
+// A desk on which the variables 1 and 2 are observed, and false.
+fn desk_of_false(alloc: Global) -> Result<Desk, Fail>
+    ensures { IfOk result (λ desk. desk ≡ both_false) }
+{
+    let one = Var::new(1).ok_or("no variable")?;
+    let two = Var::new(2).ok_or("no variable")?;
+    let mut desk = Desk::new(alloc);
+    desk.watch(one)?;
+    desk.watch(two)?;
+    desk.put(one.negative(), false);
+    desk.put(two.negative(), false);
+    Ok(desk)
+}
+
+// The same as `judged`, of the model that has both variables false, as the desk has them.
+fn judged_false(reject: &mut Reject, alloc: Global) -> Result<(bool, Option<usize>, u32), Fail> {
+    let mut desk = desk_of_false(alloc)?;
+    let passes = reject.check(&[false, false], &mut desk)?;
+    Ok((passes, clause_len(&desk), wanted(&desk)))
+}
+
 #[test]
 fn models_are_refused_by_clauses(rt: HostRuntime) -> Result<(), Fail> {
     let alloc = rt.alloc();
@@ -119,6 +141,7 @@ fn models_are_refused_by_clauses(rt: HostRuntime) -> Result<(), Fail> {
     let two = Lit::new(2).ok_or("no literal")?;
     let mut reject = Reject::new(one, two);
     assert!(rt; judged(&mut reject, alloc)? == (true, None, 0));
+    assert!(rt; judged_false(&mut reject, alloc)? == (false, Some(2), 0));
     let mut refusing = Refusing::new();
     assert!(rt; judged(&mut refusing, alloc)? == (false, Some(0), 0));
     Ok(())

@@ -9,14 +9,18 @@ use std::marker::Model;
 // A literal's value.
 #[derive(Clone, Copy)]
 pub(crate) enum Truth {
+    // It has none.
     Open,
+    // It is true.
     True,
+    // It is false.
     False,
 }
 
 // A literal's value, seen as an `Option<bool>`.
 #[derive(Clone, Copy)]
 pub(crate) struct Mark {
+    // The value.
     truth: Truth,
 }
 

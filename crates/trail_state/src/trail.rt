@@ -34,8 +34,11 @@ use std::marker::Model;
 /// A literal of the trail, the level at which it stands, and why. Contracts see a trail as the list of its steps.
 #[derive(Clone, Copy, Debug, PartialEq, Eq)]
 pub struct Step {
+    /// The literal.
     pub lit: Lit,
+    /// How many decisions stand up to it, itself among them if it was decided.
     pub level: u32,
+    /// Why it is there.
     pub reason: Reason,
 }
 

@@ -236,10 +236,3 @@ pub record KeptByAdmit (old new : Meaning) (b : Board) : Type 0 where
   pub asked : new.asked ≡ old.asked
   pub in_step : InStep new b
   pub explained : KeepsExplained old new b.seen
-
--- a propagator that was told nothing, admits everything, depends on nothing and is steady
-pub record IsFresh (t : Meaning) : Type 0 where
-  pub in_step : t.in_step empty_trail ≡ true
-  pub steady : t.steady ≡ true
-  pub scope : t.scope ≡ []
-  pub everything : (f : Assignment) → t.admits f ≡ true

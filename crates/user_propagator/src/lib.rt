@@ -1,4 +1,4 @@
-//! The interface of an outside propagator: the calls that a propagator answers (`Theory`), what
+//! The interface of an external propagator: the calls that a propagator answers (`Theory`), what
 //! it is lent in them (`Desk`), and the propagator without a constraint (`NoTheory`).
 #![tactic(auto)]
 

@@ -73,7 +73,11 @@ impl Theory for NoTheory {
         Ok(None)
     }
 
-    fn propagate(&mut self, _desk: &mut Desk) -> Result<Option<Lit>, Memory> {
+    fn propagate(&mut self, desk: &mut Desk) -> Result<Option<Lit>, Memory>
+        ensures called { CalledBack (no_meaning self.old.asked)
+            (no_meaning self.new.asked) desk.old desk.new }
+        ensures propagated { result ≡ Ok None }
+    {
         self.asked = next(self.asked);
         Ok(None)
     }
@@ -90,7 +94,11 @@ impl Theory for NoTheory {
         Err(Memory)
     }
 
-    fn check(&mut self, _model: &[bool], _desk: &mut Desk) -> Result<bool, Memory> {
+    fn check(&mut self, _model: &[bool], desk: &mut Desk) -> Result<bool, Memory>
+        ensures called { CalledBack (no_meaning self.old.asked)
+            (no_meaning self.new.asked) desk.old desk.new }
+        ensures accepts { result ≡ Ok true }
+    {
         self.asked = next(self.asked);
         Ok(true)
     }

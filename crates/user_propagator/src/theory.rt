@@ -38,8 +38,9 @@ use sat_model::literal::Lit;
 use sat_model::memory::Memory;
 use std::alloc::Global;
 
-/// A lawful propagator. `admit` and the three notifications are told to it, the other calls are
-/// asked of it; each of these is a callback and counts, whatever it answers.
+/// A lawful propagator. The three notifications, `decide`, `propagate`, `reason` and `check` are
+/// its callbacks: each of them counts, whatever is answered. `takes` and `admit` belong to giving it
+/// constraints, and are no callbacks.
 pub trait Theory: Drop {
     ghost meaning: { Self → Meaning };
 

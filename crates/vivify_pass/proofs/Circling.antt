@@ -14,12 +14,12 @@ use Rattle.trail_state.specs.Trail.{Trace}
 use Rattle.watch_lists.specs.Propagation.{Watching}
 use Rattle.vivify_pass.specs.declared.turn.Round.{Round}
 use Rattle.vivify_pass.specs.declared.turn.Round.TheVariants.{Unchanged, Changed, Stopped}
-use Rattle.vivify_pass.specs.Clauses.{firm_size, lits_sum}
-use Rattle.vivify_pass.specs.Rule.{Calm, NoneShortens}
+use Rattle.firm_terms.specs.Firm.{firm_size, lits_sum}
+use Rattle.firm_terms.specs.Vivifying.{Calm, NoneShortens}
 use Rattle.vivify_pass.specs.Trailing.{Ready}
 use Rattle.vivify_pass.specs.Turning.{always, StaysSame, Shortens, GetsShorter, ComesFull, AreFirm, literals, CalmAt, AllStay, OneShortens, RunsOut, Tried, ReachesLimit}
-use Rattle.vivify_pass.proofs.Counting.{listed, place_of}
-use Rattle.vivify_pass.proofs.Summing.{firm_size_is, sum_ids}
+use Rattle.firm_terms.proofs.Counting.{listed, place_of}
+use Rattle.firm_terms.proofs.Summing.{firm_size_is, sum_ids}
 use Rattle.vivify_pass.proofs.Forcing.{calm_whole}
 
 -- the id at a place

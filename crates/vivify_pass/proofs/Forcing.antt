@@ -7,8 +7,9 @@ use Rattle.sat_terms.specs.Truth.{Assignment, lit_true, clause_true}
 use Rattle.sat_terms.proofs.Literals.{neg-neg}
 use Rattle.sat_terms.proofs.Truths.{clause_true-from, clause_true-some, lit_true-neg}
 use Rattle.clause_store.specs.Stored.{Stored, slot, slot_lits, is_firm, FirmTrue}
-use Rattle.vivify_pass.specs.Rule.{Forced, Fails, negs, Stops, Vivifies, Calm, ResultIsImplied, CalmIsNotShortened, NoneCame, CalmStays}
-use Rattle.vivify_pass.specs.Rule.Forced.{start, unit}
+use Rattle.vivify_pass.specs.Rule.{ResultIsImplied, CalmIsNotShortened, CalmStays}
+use Rattle.firm_terms.specs.Vivifying.{Forced, Fails, negs, Stops, Vivifies, Calm}
+use Rattle.firm_terms.specs.Vivifying.Forced.{start, unit}
 
 -- a literal that is forced is true wherever the given ones and the firm clauses are
 pub forced_true : (s : List (Option Stored)) (id : ℕ) (given : List ℕ) (l : ℕ) (f : Assignment) → FirmTrue s f → ((m : ℕ) → has given m ≡ true → lit_true f m ≡ true) → Forced s id given l → lit_true f l ≡ true
@@ -32,28 +33,6 @@ fails_never s id given f h g x =
 pub forced_more : (s : List (Option Stored)) (id : ℕ) (xs ys : List ℕ) (l : ℕ) → ((m : ℕ) → has xs m ≡ true → has ys m ≡ true) → Forced s id xs l → Forced s id ys l
 forced_more s id xs ys _ sub (start l i) = start l (sub l i)
 forced_more s id xs ys _ sub (unit l k ne firm' i others) = unit l k ne firm' i (λ m a b. forced_more s id xs ys (neg m) sub (others m a b))
-
--- where no clause came, no more is forced
-pub forced_fewer : (s t : List (Option Stored)) (id : ℕ) (given : List ℕ) (l : ℕ) → NoneCame s t → Forced t id given l → Forced s id given l
-forced_fewer s t id given _ h (start l i) = start l i
-forced_fewer s t id given _ h (unit l k ne firm' i others) =
-    let e = h k firm' in
-    unit l k ne (subst (λ (z : Option Stored). is_firm z ≡ true) e firm') (subst (λ (z : Option Stored). has (slot_lits z) l ≡ true) e i)
-    (λ m a b. forced_fewer s t id given (neg m) h (others m (subst (λ (z : Option Stored). has (slot_lits z) m ≡ true) (sym e) a) b))
-
-pub fails_fewer : (s t : List (Option Stored)) (id : ℕ) (given : List ℕ) → NoneCame s t → Fails t id given → Fails s id given
-fails_fewer s t id given h x =
-    let e = h x.0 x.2 in
-    (x.0, x.1, subst (λ (z : Option Stored). is_firm z ≡ true) e x.2, λ m a. forced_fewer s t id given (neg m) h (x.3 m (subst (λ (z : Option Stored). has (slot_lits z) m ≡ true) (sym e) a)))
-
-pub calm_stays : CalmStays
-calm_stays s t id c h calm front back l e some =
-    let k = calm front back l e some in
-    record {
-      stands = λ x. k.stands (fails_fewer s t id (negs front) h x);
-      free = λ x. k.free (forced_fewer s t id (negs front) (neg l) h x);
-      open_yet = λ lt m i x. k.open_yet lt m i (forced_fewer s t id (negs front) m h x);
-    }
 
 -- where a clause is false, its opposites are true
 has_negs : (c : List ℕ) (l : ℕ) → has (negs c) l ≡ true → has c (neg l) ≡ true

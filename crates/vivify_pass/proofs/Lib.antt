@@ -1,9 +1,7 @@
 pub mod Circling
-pub mod Counting
 pub mod Forcing
 pub mod Passing
 pub mod Probing
 pub mod Setting
-pub mod Summing
 pub mod Trailing
 pub mod Turning

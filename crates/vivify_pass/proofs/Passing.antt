@@ -3,7 +3,7 @@ use Rattle.std.proofs.Common.{◌≡◌, ℕ, suc, zero, Bool, true, List, [], �
 use Rattle.std.specs.List.{list_any}
 use Rattle.std.proofs.lemmas.Bool.{cases_Bool, false≢true, or_cases, or_left, or_right}
 use Rattle.clause_store.specs.Stored.{Stored, keeps_firm, slot, slot_lits, is_firm}
-use Rattle.pass_terms.specs.Firm.{firm}
+use Rattle.firm_terms.specs.Firm.{firm}
 
 pub some_of : (p : List ℕ → Bool) (s : List (Option Stored)) → list_any p (firm s) ≡ true → (id : ℕ) × (is_firm (slot s id) ≡ true) × (p (slot_lits (slot s id)) ≡ true)
 some_of p [] h = absurd (false≢true h)

@@ -8,7 +8,7 @@ use Rattle.clause_store.specs.Stored.{Stored}
 use Rattle.trail_state.specs.declared.trail.Step.{Step}
 use Rattle.trail_state.specs.Trail.{Trace, true_on, value_on, IsTrail}
 use Rattle.watch_lists.specs.Propagation.{Watching}
-use Rattle.vivify_pass.specs.Rule.{Forced, Fails, negs, IsOpen, Stops, Vivifies, IsCalm, Calm}
+use Rattle.firm_terms.specs.Vivifying.{Forced, Fails, negs, IsOpen, Stops, Vivifies, IsCalm, Calm}
 use Rattle.vivify_pass.specs.Trailing.{AllAbove, Probes, Probed}
 use Rattle.vivify_pass.proofs.Trailing.{forced_on, not_both, negs_more}
 use Rattle.sat_terms.proofs.Members.{has-append_right, has-append_cases}

@@ -11,11 +11,10 @@ use Rattle.clause_store.specs.Listing.{HasEachOnce, firm_at}
 use Rattle.trail_state.specs.Trail.{Trace}
 use Rattle.watch_lists.specs.Propagation.{Watching, Follows}
 use Rattle.vivify_pass.specs.Trailing.{Ready}
-use Rattle.vivify_pass.proofs.Counting.{place_of, listed}
-use Rattle.vivify_pass.proofs.Summing.{once_apart}
+use Rattle.firm_terms.proofs.Counting.{place_of, listed}
+use Rattle.firm_terms.proofs.Summing.{once_apart}
 use Rattle.vivify_pass.proofs.Passing.{some_of, some_from}
-use Rattle.pass_terms.specs.Firm.{firm}
-use Rattle.vivify_pass.specs.Clauses.{has_empty}
+use Rattle.firm_terms.specs.Firm.{firm, has_empty}
 use Rattle.pass_terms.proofs.Ruling.{ruled_weaken}
 use Rattle.pass_terms.specs.Ruled.{Ruled}
 use Rattle.rule_kernel.specs.State.{State}

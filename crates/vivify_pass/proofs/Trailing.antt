@@ -12,8 +12,8 @@ use Rattle.trail_state.specs.Clauses.{FalseOn}
 use Rattle.trail_state.proofs.Places.{place_of_true, true_at_place}
 use Rattle.trail_state.proofs.Changes.{step_old, step_new, old_or_new}
 use Rattle.watch_lists.specs.Propagation.{Watching, Follows, Grown, AllQuiet}
-use Rattle.vivify_pass.specs.Rule.{Forced, Fails, negs}
-use Rattle.vivify_pass.specs.Rule.Forced.{start, unit}
+use Rattle.firm_terms.specs.Vivifying.{Forced, Fails, negs}
+use Rattle.firm_terms.specs.Vivifying.Forced.{start, unit}
 use Rattle.vivify_pass.specs.Trailing.{AreOthers, AreForced, AreTrue, Probes, AllAbove}
 use Rattle.vivify_pass.proofs.Forcing.{forced_more}
 

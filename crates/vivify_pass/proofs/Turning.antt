@@ -10,17 +10,16 @@ use Rattle.clause_store.specs.Stored.{Stored, slot, slot_lits, is_firm, SlotTrue
 use Rattle.rule_kernel.specs.State.{State}
 use Rattle.rule_kernel.specs.Rules.{firm_clause, AddsImplied, DropsImplied}
 use Rattle.rule_kernel.proofs.Chained.{live_from_firm}
-use Rattle.pass_terms.specs.Firm.{firm, stands}
-use Rattle.vivify_pass.specs.Clauses.{firm_size, lits_sum}
+use Rattle.firm_terms.specs.Firm.{firm, stands, firm_size, lits_sum}
 use Rattle.pass_terms.specs.Ruled.{IsKnown, Ruled}
 use Rattle.pass_terms.specs.Ruled.Uses.{implied, dropped}
 use Rattle.pass_terms.specs.Ruled.Ruled.{none, more}
-use Rattle.pass_terms.proofs.Standing.{stands_from, mentions_lit, lit_of}
+use Rattle.firm_terms.proofs.Standing.{stands_from, mentions_lit, lit_of}
 use Rattle.trail_state.specs.Trail.{Trace, IsBack}
 use Rattle.watch_lists.specs.Propagation.{Watching, Follows}
 use Rattle.vivify_pass.specs.Trailing.{AreOthers, AllAbove, Probes, Ready}
 use Rattle.vivify_pass.specs.Turning.{always, Shortens}
-use Rattle.vivify_pass.proofs.Summing.{sum_filled, sum_freed, firm_size_is}
+use Rattle.firm_terms.proofs.Summing.{sum_filled, sum_freed, firm_size_is}
 
 -- the lists without a clause
 pub others_of : (s : List (Option Stored)) (w w' : Watching) (t : Trace) (id : ℕ) → Ready s w t → ((k : ℕ) → has w'.attached k ≡ (has w.attached k && not (eqb k id))) → AreOthers s id w'.attached

@@ -9,7 +9,7 @@ use Rattle.trail_state.specs.Trail.{Trace, step, true_on}
 use Rattle.watch_lists.specs.Propagation.{Watching, Follows, AllReady}
 use Rattle.vivify_pass.specs.declared.probe.Look.{Look}
 use Rattle.vivify_pass.specs.declared.probe.Look.TheVariants.{False, True, Open}
-use Rattle.vivify_pass.specs.Rule.{Forced, Fails, Vivifies, Calm}
+use Rattle.firm_terms.specs.Vivifying.{Forced, Fails, Vivifies, Calm}
 
 -- the ids are those of the firm clauses but one
 pub record AreOthers (s : List (Option Stored)) (id : ℕ) (ids : List ℕ) : Type 0 where

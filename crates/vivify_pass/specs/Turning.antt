@@ -11,8 +11,8 @@ use Rattle.vivify_pass.specs.declared.turn.Turn.{Turn}
 use Rattle.vivify_pass.specs.declared.turn.Turn.TheVariants.{Same, Shorter, Full}
 use Rattle.vivify_pass.specs.declared.turn.Round.{Round}
 use Rattle.vivify_pass.specs.declared.turn.Round.TheVariants.{Unchanged, Changed, Stopped}
-use Rattle.vivify_pass.specs.Clauses.{firm_size, lits_sum}
-use Rattle.vivify_pass.specs.Rule.{Calm, NoneShortens}
+use Rattle.firm_terms.specs.Firm.{firm_size, lits_sum}
+use Rattle.firm_terms.specs.Vivifying.{Calm, NoneShortens}
 use Rattle.vivify_pass.specs.Trailing.{Ready}
 
 -- no variable is free to be a witness

@@ -20,7 +20,7 @@ ghost use Rattle.std.specs.Prelude.{◌≡◌, ◌≤◌, ◌<◌, ◌+◌, leng
 ghost use Rattle.sat_terms.specs.Literal.{has, neg as opposite, var_of};
 ghost use Rattle.sat_terms.specs.Normal.{IsNormal};
 ghost use Rattle.trail_state.specs.Trail.{value_on, true_on};
-ghost use Rattle.vivify_pass.specs.Rule.{negs};
+ghost use Rattle.firm_terms.specs.Vivifying.{negs};
 ghost use Rattle.vivify_pass.specs.Trailing.{AllAbove, Probes, Looked, Probed, IsCount};
 ghost use Rattle.watch_lists.specs.Propagation.{Follows};
 

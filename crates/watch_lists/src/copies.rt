@@ -19,13 +19,16 @@ const MAX_WORDS: usize = 4_294_967_295;
 // Where the literals of a clause lie.
 #[derive(Clone, Copy)]
 pub(crate) struct Place {
+    // The place of the first literal in the array.
     start: u32,
+    // How many literals there are.
     len: u32,
 }
 
 // The literals of the clauses that are watched, by id, those that are watched in front.
 #[derive(Drop)]
 pub(crate) struct Copies {
+    // The allocator for the array and the table that `compact` makes.
     alloc: Global,
     // The literals of all clauses, one clause behind the other.
     words: Vec<Lit>,

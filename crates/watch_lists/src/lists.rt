@@ -27,6 +27,7 @@ pub struct Watch {
 // The watches of a literal.
 #[derive(Drop)]
 pub(crate) struct WatchList {
+    // The watches, in no order.
     watches: Vec<Watch>,
 }
 

@@ -14,6 +14,7 @@ use std::marker::Model;
 // A set of ids. Contracts see a mark at the number of each member.
 #[derive(Drop)]
 pub(crate) struct Marks {
+    // The members.
     ids: FlagSet<ClauseId>,
 }
 

@@ -2,8 +2,8 @@
 //!
 //! A clause can become false or unit only when its last literal but one becomes false. So each clause of two or more literals
 //! watches two of them, and is looked at only when one of these becomes false (Moskewicz and others, Chaff, 2001). Then it is
-//! true already, or another literal of it that is not false is watched instead, or it is unit, or false. Nothing is done for it when the trail
-//! goes back: two watched literals that were good enough on a trail are so on each of its fronts.
+//! true already, or another literal of it that is not false is watched instead, or it is unit, or false. Nothing is done for it
+//! when the trail goes back: two watched literals that were good enough on a trail are so on each of its fronts.
 //!
 //! `propagate` goes over the trail from its head on, and visits for each literal the list of the clauses that watch its negation. What they
 //! imply is appended to the trail, so that the trail is the queue. It ends at the first false clause, or where the

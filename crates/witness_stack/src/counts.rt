@@ -18,6 +18,7 @@ const MOST: usize = 4_294_967_295;
 // A count for each literal. Contracts see one number for each code, and `count_at` reads them.
 #[derive(Drop)]
 pub(crate) struct WitnessCounts {
+    // The count of each literal, at its code; none past the end.
     counts: Vec<u32>,
     // The sum of the counts, so that none of them passes its type's end.
     sum: usize,

@@ -22,7 +22,9 @@ use std::mem;
 /// A witness and a clause.
 #[derive(Drop)]
 pub struct Entry {
+    // The literals that are set true where the clause is false.
     witness: Lits,
+    // The clause that was taken out.
     clause: Lits,
 }
 
@@ -53,6 +55,7 @@ impl Entry {
 /// A list of entries. Taking out many of them, from the last to the first, costs one walk in all.
 #[derive(Drop)]
 pub struct Entries {
+    // The allocator for the lists of new entries and for empty slots.
     alloc: Global,
     // The entries, in order, with the gap's empty slots among them.
     slots: Vec<Entry>,

@@ -8,8 +8,9 @@
 //! literals; where it is not, the entries that stand in its way are taken out, from the newest to the oldest, and their clauses are firm
 //! again (Fazekas, Biere and Scholl, "Incremental inprocessing in SAT solving", SAT 2019). `next_tainted` finds them one by one.
 //!
-//! The stack keeps of each entry what makes extending right in itself (`IsStack`): the witness holds no opposite literals, and one literal of
-//! the clause, so that setting it makes the clause true. That no other clause is broken is the rules' business (rule_kernel).
+//! The stack keeps of each entry what makes extending right in itself (`IsStack`): the witness holds no opposite literals, and one
+//! literal of the clause, so that setting it makes the clause true. That no other clause is broken is the rules' business
+//! (rule_kernel).
 ghost use Rattle.std.specs.Prelude.{◌≡◌, ◌<◌, ◌==◌, ◌↔◌, ◌++◌, [], ◌∷◌, length, OnErr, OnOk, IsTrue, remove, IfSome, IfNone};
 ghost use Rattle.std.specs.List.{list_all};
 ghost use Rattle.sat_terms.specs.Literal.{neg as opposite};

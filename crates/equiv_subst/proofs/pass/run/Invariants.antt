@@ -1,7 +1,6 @@
 use Rattle.std.proofs.Common.{◌-◌, length}
 use Rattle.rule_kernel.specs.Frozen.{is_frozen}
-use Rattle.pass_terms.specs.Firm.{firm}
-use Rattle.equiv_subst.specs.Clauses.{vars, gone}
+use Rattle.firm_terms.specs.Firm.{firm, vars, gone}
 use Rattle.equiv_subst.proofs.Passing.{Passing}
 use Rattle.equiv_subst.proofs.pass.run.Given as goal
 

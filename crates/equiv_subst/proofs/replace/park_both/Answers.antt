@@ -1,6 +1,6 @@
 use Rattle.pass_terms.proofs.Ruling.{ruled_trans}
 use Rattle.sat_terms.specs.Literal.{var_of, neg}
-use Rattle.equiv_subst.specs.Clauses.{Holds}
+use Rattle.firm_terms.specs.Firm.{Holds}
 use Rattle.equiv_subst.specs.Replacing.{all_but}
 use Rattle.equiv_subst.proofs.Replacing.{park_back, park_forth, left_forth, cleared_first, parked_both, ruled_first, ruled_park, ruled_same}
 use Rattle.equiv_subst.proofs.replace.park_both.Goals as goal

@@ -1,4 +1,4 @@
-use Rattle.vivify_pass.specs.Clauses.{lits_sum}
+use Rattle.firm_terms.specs.Firm.{lits_sum}
 use Rattle.vivify_pass.proofs.Circling.{Circling}
 use Rattle.vivify_pass.proofs.turn.rounds.Given as goal
 

@@ -1,4 +1,3 @@
-use Rattle.std.proofs.Common.{sym, arith, ◌*◌}
 use Rattle.rule_kernel.proofs.Marking.{room_lit}
 use Rattle.rule_kernel.proofs.changes.Changes.came.Goals as goal
 

@@ -1,4 +1,3 @@
-use Rattle.std.proofs.Common.{◌∙◌}
 use Rattle.flag_set.proofs.Placing.{lists_with}
 use Rattle.rule_kernel.proofs.changes.Changes.mark.Goals as goal
 

@@ -9,4 +9,14 @@ enter-requires c =
 pub invariant_of-self-2 : goal.invariant_of-self-2
 invariant_of-self-2 c =
     rw c.take_out.ensures
-    (kept_restored c.self.invariant _ c.args.k c.enter.ensures.more (rw c.clause.ensures at c.in_ok-id.ensures.room) (rw (← c.self.view_is) at c.requires.within) (rw (← c.self.view_is) at c.requires.clean) (rw c.clause.ensures at c.in_ok-id.ensures.store))
+    (kept_restored c.self.invariant c.args.k (record {
+      fills = rw c.clause.ensures at c.in_ok-id.ensures.store;
+      marks = rw c.clause.ensures at c.in_ok-id.ensures.marks;
+      fits = rw c.clause.ensures at c.in_ok-id.ensures.room;
+      more = c.enter.ensures.more;
+      waits = c.in_ok-id.ensures.waits;
+      within = c.in_ok-id.ensures.id;
+      more_ids = c.enter.ensures.more_ids;
+      settled = c.in_ok-id.ensures.settled;
+    })
+    (rw (← c.self.view_is) at c.requires.within) (rw (← c.self.view_is) at c.requires.clean))

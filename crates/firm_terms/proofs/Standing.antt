@@ -1,12 +1,9 @@
 -- Laws of the firm clauses of a store, by their ids.
-use Rattle.std.proofs.Common.{◌≡◌, ◌≢◌, ℕ, ◌*◌, ◌+◌, ◌/◌, suc, zero, Bool, true, false, ◌||◌, eqb, List, [], ◌∷◌, Option, Some, None, ◌⊎◌, inl, inr, refl, sym, ap, ◌∙◌, subst, arith}
-use Rattle.std.specs.List.{list_any}
+use Rattle.std.proofs.Common.{◌≡◌, ℕ, suc, zero, true, eqb, List, [], ◌∷◌, Option, Some, None, ◌⊎◌, inl, inr, refl, ap, ◌∙◌}
 use Rattle.std.proofs.lemmas.Bool.{cases_Bool, cases_eq, false≢true, or_cases, or_left, or_right, eq-eqb, eqb-true}
 use Rattle.sat_terms.specs.Literal.{has, var_of}
 use Rattle.clause_store.specs.Stored.{Stored, keeps_firm, slot, slot_lits, is_firm, Fills, Frees}
-use Rattle.rule_kernel.specs.Rules.{firm_clause}
-use Rattle.rule_kernel.specs.Changes.{mentions}
-use Rattle.pass_terms.specs.Firm.{firm, stands}
+use Rattle.firm_terms.specs.Firm.{mentions, firm, stands}
 
 -- a variable that stands in firm clauses stands in one, by its id
 pub stands_of : (s : List (Option Stored)) (v : ℕ) → stands (firm s) v ≡ true → (id : ℕ) × (is_firm (slot s id) ≡ true) × (mentions (slot_lits (slot s id)) v ≡ true)
@@ -49,11 +46,11 @@ lit_of (x ∷ c) v h =
     ]
 
 -- a store with one clause more, or one fewer
-pub stands_filled : (s t : List (Option Stored)) (id v : ℕ) (lits : List ℕ) → Fills s t id (firm_clause lits) → stands (firm t) v ≡ true → (stands (firm s) v ≡ true) ⊎ (mentions lits v ≡ true)
-stands_filled s t id v lits fills h =
+pub stands_filled : (s t : List (Option Stored)) (id v : ℕ) (c : Stored) → Fills s t id c → stands (firm t) v ≡ true → (stands (firm s) v ≡ true) ⊎ (mentions c.lits v ≡ true)
+stands_filled s t id v c fills h =
     let r = stands_of t v h in
     elim (cases_eq r.0 id) [
-      | inl e ↦ (let there : slot t r.0 ≡ Some (firm_clause lits) = ap (slot t) e ∙ fills.filled in inr (rw there at r.2))
+      | inl e ↦ (let there : slot t r.0 ≡ Some c = ap (slot t) e ∙ fills.filled in inr (rw there at r.2))
       | inr n ↦ (let same = fills.others r.0 n in inl (stands_from s v r.0 (rw same at r.1) (rw same at r.2)))
     ]
 

@@ -6,8 +6,8 @@ use Rattle.std.proofs.lemmas.Bool.{cases_Bool, false≢true, eq-eqb, ne_eqb}
 use Rattle.clause_store.specs.Stored.{Stored, slot, slot_lits, is_firm, Fills, Frees}
 use Rattle.clause_store.specs.Listing.{times, HasEachOnce, firm_at}
 use Rattle.clause_store.proofs.Counts.{times-cons, times_at}
-use Rattle.vivify_pass.specs.Clauses.{firm_size, lits_sum}
-use Rattle.vivify_pass.proofs.Counting.{tally, tally_same, tally_add, listed, slot_within}
+use Rattle.firm_terms.specs.Firm.{firm_size, lits_sum}
+use Rattle.firm_terms.proofs.Counting.{tally, tally_same, tally_add, listed, slot_within}
 
 -- two sums that differ at one place
 pub tally_at : (f g : ℕ → ℕ) (n i : ℕ) → i < n → ((k : ℕ) → k ≢ i → g k ≡ f k) → tally g n + f i ≡ tally f n + g i

@@ -1,11 +1,12 @@
 -- Laws of how many slots of a store pass a test.
 use Rattle.std.proofs.Common.{◌≡◌, ◌≢◌, ℕ, suc, zero, ◌+◌, ◌<◌, ◌≤◌, Bool, true, false, cond, eqb, List, [], ◌∷◌, length, get_or, max, Option, Some, None, inl, inr, refl, sym, ap, ◌∙◌, arith, count_by}
 use Rattle.std.proofs.lemmas.List.Sums.{sum_by-cons}
-use Rattle.std.proofs.lemmas.Bool.{cases_Bool, cases_eq, false≢true, eq-eqb, ne_eqb}
+use Rattle.std.proofs.lemmas.Bool.{cases_Bool, cases_eq, false≢true, or_left, or_right, eq-eqb, ne_eqb}
+use Rattle.sat_terms.specs.Literal.{has}
 use Rattle.clause_store.specs.Stored.{Stored, keeps_firm, slot, is_firm, Fills, Frees}
 use Rattle.clause_store.specs.Listing.{times, HasEachOnce, firm_at}
 use Rattle.clause_store.proofs.Counts.{times-cons, times_at, times_place}
-use Rattle.pass_terms.specs.Firm.{firm}
+use Rattle.firm_terms.specs.Firm.{firm}
 
 -- a sum over the numbers below n
 abbrev pub tally : (ℕ → ℕ) → ℕ → ℕ
@@ -185,3 +186,33 @@ count_three p s i j k h ij ik jk a b c =
     let z = without_one e n k (slot_within p s k h c) (rw (ne_eqb k j (λ u. jk (sym u)), ne_eqb k i (λ u. ik (sym u))) (ap one_if c)) in
     let d = count_tally p s n h (omega arith) in
     omega arith
+
+-- a list that has each number which passes once has just these
+has_some_times : (ids : List ℕ) (k : ℕ) → 0 < times ids k → has ids k ≡ true
+has_some_times [] k h = absurd (omega arith)
+has_some_times (x ∷ ids) k h =
+    elim (cases_eq x k) [
+      | inl e ↦ or_left (eqb x k) (has ids k) (eq-eqb x k e)
+      | inr n ↦
+          (let less : times (x ∷ ids) k ≡ times ids k = times-cons x ids k ∙ ap (λ b. cond b 1 0 + times ids k) (ne_eqb x k n) ∙ omega arith in
+          or_right (eqb x k) (has ids k) (has_some_times ids k (omega arith)))
+    ]
+
+has_no_times : (ids : List ℕ) (k : ℕ) → times ids k ≡ 0 → has ids k ≡ false
+has_no_times [] k h = refl
+has_no_times (x ∷ ids) k h =
+    elim (cases_eq x k) [
+      | inl e ↦
+          (let more : times (x ∷ ids) k ≡ 1 + times ids k = times-cons x ids k ∙ ap (λ b. cond b 1 0 + times ids k) (eq-eqb x k e) in
+          absurd (omega arith))
+      | inr n ↦
+          (let less : times (x ∷ ids) k ≡ times ids k = times-cons x ids k ∙ ap (λ b. cond b 1 0 + times ids k) (ne_eqb x k n) ∙ omega arith in
+          rw (ne_eqb x k n) (has_no_times ids k (omega arith)))
+    ]
+
+pub listed_has : (test : ℕ → Bool) (ids : List ℕ) (k : ℕ) → HasEachOnce test ids → has ids k ≡ test k
+listed_has test ids k h =
+    elim (cases_Bool (test k)) [
+      | inl y ↦ (let one : times ids k ≡ 1 = rw y at (h.once k) in has_some_times ids k (omega arith) ∙ sym y)
+      | inr n ↦ (let none : times ids k ≡ 0 = rw n at (h.once k) in has_no_times ids k none ∙ sym n)
+    ]
