@@ -5,3 +5,4 @@ pub mod Forms
 pub mod Trying
 pub mod Making
 pub mod Settling
+pub mod Eliminating

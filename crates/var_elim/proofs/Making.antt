@@ -5,7 +5,7 @@ use Rattle.std.proofs.lemmas.Bool.{cases_Bool, false≢true, false_from_ne_true,
 use Rattle.std.proofs.lemmas.List.{length-append, length-map}
 use Rattle.sat_terms.specs.Literal.{has, neg}
 use Rattle.sat_terms.specs.Normal.{IsNormal}
-use Rattle.normal_form.specs.Forms.{IsFormOf, IsTautology}
+use Rattle.normal_form.specs.Forms.{IsFormOf}
 use Rattle.clause_store.specs.Stored.{Stored, slot, slot_lits, is_firm}
 use Rattle.clause_store.specs.Listing.{HasEachOnce, holds_at}
 use Rattle.firm_terms.specs.Firm.{firm, Holds}
@@ -25,19 +25,6 @@ form_clear form r h =
     false_from_ne_true (is_tautology r) (λ t.
     let l = any_some _ r t in
     false≢true (sym (normal_apart form h.normal l.0 (h.same l.0 ∙ l.1)) ∙ h.same (neg l.0) ∙ l.2))
-
-pub form_none : (r : List ℕ) → IsTautology r → is_tautology r ≡ true
-form_none r h = any_from _ r h.0 h.1 h.2
-
-pub some_map : {E : Type 0} (r : Result (Option (List ℕ)) E) (P Q : List ℕ → Type 0) → ((form : List ℕ) → P form → Q form) → IfOk r (λ found. IfSome found P) → IfOk r (λ found. IfSome found Q)
-some_map (Ok (Some form)) P Q f h = f form h
-some_map (Ok None) P Q f h = h
-some_map (Err e) P Q f h = h
-
-pub none_map : {E : Type 0} (r : Result (Option (List ℕ)) E) (P Q : Type 0) → (P → Q) → IfOk r (λ found. IfNone found P) → IfOk r (λ found. IfNone found Q)
-none_map (Ok (Some form)) P Q f h = h
-none_map (Ok None) P Q f h = f h
-none_map (Err e) P Q f h = h
 
 -- whether a variable is a candidate, from the parts of the test
 is_candidate : (x : ℕ) (ps ns : List (List ℕ)) → could_be ps ns ≡ true → length (resolvents x ps ns) ≤ length ps + length ns → list_all is_short (resolvents x ps ns) ≡ true → candidate_of x ps ns ≡ true

@@ -285,7 +285,56 @@ merged_none x c d nc nd = record {
   back = record { below = λ l m hl hm. absurd (false≢true hl) };
 }
 
--- which of two literals that are neither equal nor opposite comes first
-pub apart_vars : (a b : ℕ) → a ≢ b → neg a ≢ b → var_of a ≢ var_of b
-apart_vars a b n m e =
-    elim (same_var a b e) [ inl q ↦ n q | inr q ↦ m (ap neg q ∙ neg-neg b) ]
+-- which of two literals comes next
+module _ (c d : List ℕ) (i j a b : ℕ) (in' : i < length c) (in'' : j < length d) (ea : a ≡ get_or c i a) (eb : b ≡ get_or d j b) where
+  is_first : a ≡ lit_at c i
+  is_first = ea ∙ get_or_default c i a 0 in'
+
+  is_second : b ≡ lit_at d j
+  is_second = eb ∙ get_or_default d j b 0 in''
+
+  pub comes_first : IsNormal d → var_of a < var_of b → (i < length c) × AreBelow (lit_at c i ∷ []) (drop j d)
+  comes_first nd lt = (in', below_from d j (lit_at c i) nd in'' (rw (← is_first, ← is_second) lt))
+
+  pub come_both : a ≡ b → (i < length c) × (j < length d) × (lit_at c i ≡ lit_at d j)
+  come_both e = (in', in'', sym is_first ∙ e ∙ is_second)
+
+  are_opposite : var_of a ≡ var_of b → a ≢ b → b ≡ neg a
+  are_opposite v n = elim (same_var a b v) [ inl q ↦ absurd (n q) | inr q ↦ sym (ap neg q ∙ neg-neg b) ]
+
+  pub come_opposite : (x : ℕ) → var_of a ≡ var_of b → a ≢ b → a ≡ x → (i < length c) × (j < length d) × (lit_at c i ≡ x) × (lit_at d j ≡ neg x)
+  come_opposite x v n e = (in', in'', sym is_first ∙ e, sym is_second ∙ are_opposite v n ∙ ap neg e)
+
+  pub come_clash : (x : ℕ) → var_of a ≡ var_of b → a ≢ b → a ≢ x → (i < length c) × (j < length d) × (lit_at c i ≢ x) × (lit_at d j ≡ neg (lit_at c i))
+  come_clash x v n m = (in', in'', (λ e. m (is_first ∙ e)), sym is_second ∙ are_opposite v n ∙ ap neg is_first)
+
+-- the steps of the code
+module _ (x i j : ℕ) (c d form : List ℕ) (nc : IsNormal c) (nd : IsNormal d) (hc : has c x ≡ true) (hd : has d (neg x) ≡ true) (h : (i ≤ length c) × (j ≤ length d) × Merged x c d i j form) where
+  module _ (form' : List ℕ) (y : ℕ) (more : form' ≡ form ++ y ∷ []) where
+    pub walk_left : y ≡ get_or c i y → (i < length c) × AreBelow (lit_at c i ∷ []) (drop j d) → (i + 1 ≤ length c) × (j ≤ length d) × Merged x c d (i + 1) j form'
+    walk_left e k =
+        let in' = k.0 in
+        let f : form' ≡ form ++ lit_at c i ∷ [] = more ∙ ap (λ (z : ℕ). form ++ z ∷ []) (e ∙ get_or_default c i y 0 in') in
+        (omega arith, h.1, rw (f, add-one) (merged_left x i j c d form nc nd hc hd h.2 in' k.1))
+
+    pub walk_right : y ≡ get_or d j y → (j < length d) × AreBelow (lit_at d j ∷ []) (drop i c) → (i ≤ length c) × (j + 1 ≤ length d) × Merged x c d i (j + 1) form'
+    walk_right e k =
+        let in' = k.0 in
+        let f : form' ≡ form ++ lit_at d j ∷ [] = more ∙ ap (λ (z : ℕ). form ++ z ∷ []) (e ∙ get_or_default d j y 0 in') in
+        (h.0, omega arith, rw (f, add-one) (merged_right x i j c d form nc nd hc hd h.2 in' k.1))
+
+    pub walk_both : y ≡ get_or c i y → (i < length c) × (j < length d) × (lit_at c i ≡ lit_at d j) → (i + 1 ≤ length c) × (j + 1 ≤ length d) × Merged x c d (i + 1) (j + 1) form'
+    walk_both e k =
+        let in' = k.0 in
+        let in'' = k.1 in
+        let f : form' ≡ form ++ lit_at c i ∷ [] = more ∙ ap (λ (z : ℕ). form ++ z ∷ []) (e ∙ get_or_default c i y 0 in') in
+        (omega arith, omega arith, rw (f, add-one, add-one) (merged_both x i j c d form nc nd hc hd h.2 in' in'' k.2))
+
+  pub walk_skip : (i < length c) × (j < length d) × (lit_at c i ≡ x) × (lit_at d j ≡ neg x) → (i + 1 ≤ length c) × (j + 1 ≤ length d) × Merged x c d (i + 1) (j + 1) form
+  walk_skip k =
+      let in' = k.0 in
+      let in'' = k.1 in
+      (omega arith, omega arith, rw (add-one, add-one) (merged_skip x i j c d form nc nd hc hd h.2 in' in'' k.2 k.3))
+
+  pub walk_clash : (i < length c) × (j < length d) × (lit_at c i ≢ x) × (lit_at d j ≡ neg (lit_at c i)) → is_tautology (resolvent x c d) ≡ true
+  walk_clash k = merged_clash x i j c d form nc nd hc hd h.2 k.0 k.1 k.2 k.3

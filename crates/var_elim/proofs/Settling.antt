@@ -12,8 +12,9 @@ use Rattle.clause_store.specs.Stored.{Stored, slot, slot_lits, is_firm, FirmTrue
 use Rattle.firm_terms.specs.Firm.{Holds, NoneCame}
 use Rattle.firm_terms.specs.Resolving.{resolvent, is_tautology}
 use Rattle.firm_terms.proofs.Resolving.{spares_implied, spares_tautology, witnessed, resolvent_implied}
+use Rattle.rule_kernel.specs.Rules.{firm_clause}
 use Rattle.var_elim.specs.Testing.{lits_at, clause_at, Resolvents}
-use Rattle.var_elim.specs.Eliminating.{RestTrue, Settled, stored, Extends}
+use Rattle.var_elim.specs.Eliminating.{RestTrue, Settled, Extends}
 
 -- an id that names nothing has no firm clause
 pub not_none : (x : Option Stored) → is_firm x ≡ true → x ≡ None → ⊥
@@ -49,7 +50,7 @@ extends_none s = record {
   there = λ j lt. absurd (omega arith);
 }
 
-pub extends_more : (s t u : List (Option Stored)) (front : List (List ℕ)) (r : List ℕ) (id : ℕ) → Extends s t front → Fills t u id (stored r) → Extends s u (front ++ r ∷ [])
+pub extends_more : (s t u : List (Option Stored)) (front : List (List ℕ)) (r : List ℕ) (id : ℕ) → Extends s t front → Fills t u id (firm_clause r) → Extends s u (front ++ r ∷ [])
 extends_more s t u front r id h fills =
     let long = length-append front (r ∷ []) in
     record {
@@ -58,22 +59,22 @@ extends_more s t u front r id h fills =
           fills.others k (λ q. not_none (slot s k) f (sym e ∙ ap (slot t) q ∙ fills.free)) ∙ e;
       came = λ k f.
           elim (cases_eq k id) [
-            | inl q ↦ inr (length front, (omega arith), ap (slot u) q ∙ fills.filled ∙ ap (λ (z : List ℕ). Some (stored z)) (sym (at_end front r (length front) refl)))
+            | inl q ↦ inr (length front, (omega arith), ap (slot u) q ∙ fills.filled ∙ ap (λ (z : List ℕ). Some (firm_clause z)) (sym (at_end front r (length front) refl)))
             | inr n ↦
                 (let o = fills.others k n in
                 elim (h.came k (ap is_firm (sym o) ∙ f)) [
                   | inl a ↦ inl (o ∙ a)
-                  | inr j ↦ inr (j.0, (let lt = j.1 in omega arith), o ∙ j.2 ∙ ap (λ (z : List ℕ). Some (stored z)) (sym (at_front front r j.0 j.1)))
+                  | inr j ↦ inr (j.0, (let lt = j.1 in omega arith), o ∙ j.2 ∙ ap (λ (z : List ℕ). Some (firm_clause z)) (sym (at_front front r j.0 j.1)))
                 ])
           ];
       there = λ j lt.
           elim (cases_eq j (length front)) [
-            | inl q ↦ (id, fills.filled ∙ ap (λ (z : List ℕ). Some (stored z)) (sym (at_end front r j q)))
+            | inl q ↦ (id, fills.filled ∙ ap (λ (z : List ℕ). Some (firm_clause z)) (sym (at_end front r j q)))
             | inr n ↦
                 (let below : j < length front = omega arith in
                 let k = h.there j below in
                 let ne : k.0 ≢ id = λ q. not_none (slot t k.0) (ap is_firm k.1) (ap (slot t) q ∙ fills.free) in
-                (k.0, fills.others k.0 ne ∙ k.1 ∙ ap (λ (z : List ℕ). Some (stored z)) (sym (at_front front r j below))))
+                (k.0, fills.others k.0 ne ∙ k.1 ∙ ap (λ (z : List ℕ). Some (firm_clause z)) (sym (at_front front r j below))))
           ];
     }
 

@@ -1,5 +1,6 @@
 //! Bounded variable elimination.
 #![tactic(auto)]
 
+mod eliminate;
 mod resolve;
 mod test;

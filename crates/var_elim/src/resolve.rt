@@ -33,7 +33,7 @@ pub(crate) enum Next {
 }
 
 // Which literal comes next, where not both walks are at the end.
-fn next(left: &[Lit], right: &[Lit], at: usize, to: usize, lit: Lit) -> Next
+fn compare(left: &[Lit], right: &[Lit], at: usize, to: usize, lit: Lit) -> Next
     requires left { IsNormal left.now }
     requires right { IsNormal right.now }
     requires at { at ≤ length left.now }
@@ -50,20 +50,21 @@ fn next(left: &[Lit], right: &[Lit], at: usize, to: usize, lit: Lit) -> Next
     }
     let first = left[at];
     let second = right[to];
+    let low = first.var().index();
+    let high = second.var().index();
+    if low < high {
+        return Next::Left;
+    }
+    if high < low {
+        return Next::Right;
+    }
     if first == second {
         return Next::Both;
     }
-    if first.neg() == second {
-        if first == lit {
-            return Next::Skip;
-        }
-        return Next::Clash;
+    if first == lit {
+        return Next::Skip;
     }
-    if first < second {
-        Next::Left
-    } else {
-        Next::Right
-    }
+    Next::Clash
 }
 
 // Puts the resolvent together. Answers whether it is no tautology.
@@ -78,7 +79,7 @@ fn merge(form: &mut Vec<Lit>, left: &[Lit], right: &[Lit], lit: Lit) -> Result<b
     let mut at = 0;
     let mut to = 0;
     while at < left.len() || to < right.len() {
-        match next(left, right, at, to, lit) {
+        match compare(left, right, at, to, lit) {
             Next::Left => {
                 form.push(left[at])?;
                 at += 1;

@@ -1,10 +1,10 @@
 //! Whether a variable is a candidate.
 ghost use Rattle.std.specs.Prelude.{◌≡◌, ◌<◌, ◌≤◌, ◌*◌, ◌+◌, ℕ, [], ◌∷◌, true, false, IfOk, length, map, nat_le};
 ghost use Rattle.std.specs.List.{list_any};
-ghost use Rattle.sat_terms.specs.Normal.{IsNormal};
-ghost use Rattle.clause_store.specs.Stored.{slot, slot_lits, is_firm};
+ghost use Rattle.sat_terms.specs.Literal.{neg as opposite};
+ghost use Rattle.firm_terms.specs.Firm.{Holds};
 ghost use Rattle.firm_terms.specs.Resolving.{is_unit, row, resolvents, could_be};
-ghost use Rattle.var_elim.specs.Testing.{lits_at, AllFirm, Looked, Tried};
+ghost use Rattle.var_elim.specs.Testing.{lits_at, AllFirm, AllHold, Looked, Tried};
 
 use crate::resolve::resolve;
 use clause_store::store::Store;
@@ -31,6 +31,8 @@ pub(crate) struct Work {
     pairs: u64,
     // Their resolvents that are no tautology.
     resolvents: Vec<Lits>,
+    // The literals of the resolvent that is put together.
+    scratch: Vec<Lit>,
 }
 
 /// A tested variable.
@@ -94,8 +96,8 @@ fn resolve_pair(
     rest: u64,
     work: &mut Work,
 ) -> Result<Outcome, Memory>
-    requires left { is_firm (slot store.now left) ≡ true }
-    requires right { is_firm (slot store.now right) ≡ true }
+    requires left { Holds store.now left lit }
+    requires right { Holds store.now right (opposite lit) }
     requires within { work.old.pairs ≤ rest }
     requires few { length work.old.resolvents.items ≤ most }
     ensures { IfOk result (λ outcome. Looked work.old work.new (row lit (lits_at store.now left) (lits_at store.now right ∷ [])) 1 most rest outcome) }
@@ -104,7 +106,7 @@ fn resolve_pair(
         return Ok(Outcome::Spent);
     }
     work.pairs += 1;
-    match resolve(alloc, store.get(left), store.get(right), lit)? {
+    match resolve(alloc, store.get(left), store.get(right), lit, &mut work.scratch)? {
         None => Ok(Outcome::Fits),
         Some(form) => {
             if work.resolvents.len() >= most {
@@ -130,8 +132,8 @@ fn resolve_row(
     rest: u64,
     work: &mut Work,
 ) -> Result<Outcome, Memory>
-    requires left { is_firm (slot store.now left) ≡ true }
-    requires rights { AllFirm store.now rights.now }
+    requires left { Holds store.now left lit }
+    requires rights { AllHold store.now (opposite lit) rights.now }
     requires within { work.old.pairs ≤ rest }
     requires few { length work.old.resolvents.items ≤ most }
     ensures { IfOk result (λ outcome. Looked work.old work.new (row lit (lits_at store.now left) (map (lits_at store.now) rights.now)) (length rights.now) most rest outcome) }
@@ -157,8 +159,8 @@ fn resolve_all(
     rest: u64,
     work: &mut Work,
 ) -> Result<Outcome, Memory>
-    requires lefts { AllFirm store.now lefts.now }
-    requires rights { AllFirm store.now rights.now }
+    requires lefts { AllHold store.now lit lefts.now }
+    requires rights { AllHold store.now (opposite lit) rights.now }
     requires within { work.old.pairs ≤ rest }
     requires few { length work.old.resolvents.items ≤ most }
     ensures { IfOk result (λ outcome. Looked work.old work.new (resolvents lit (map (lits_at store.now) lefts.now) (map (lits_at store.now) rights.now)) (length lefts.now * length rights.now) most rest outcome) }
@@ -181,6 +183,7 @@ pub(crate) fn test_var(alloc: Global, store: &Store, lit: Lit, rest: u64) -> Res
     let mut work = Work {
         pairs: 0,
         resolvents: Vec::new(alloc),
+        scratch: Vec::new(alloc),
     };
     let lefts = store.occ(lit);
     let rights = store.occ(lit.neg());
