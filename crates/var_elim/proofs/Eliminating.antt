@@ -1,11 +1,13 @@
 -- What the elimination of a variable keeps, rule by rule.
-use Rattle.std.proofs.Common.{◌≡◌, ◌≢◌, ℕ, ◌+◌, ◌<◌, Bool, true, false, not, eqb, List, [], ◌∷◌, ◌++◌, length, get_or, take, ◌⊎◌, inl, inr, refl, sym, ap, ◌∙◌, subst, arith, Option, Some, None, cond}
+use Rattle.std.proofs.Common.{◌≡◌, ◌≢◌, ℕ, ◌+◌, ◌<◌, Bool, true, false, not, eqb, List, [], ◌∷◌, ◌++◌, length, get_or, take, ◌⊎◌, inl, inr, refl, sym, ap, ◌∙◌, subst, arith, Option, Some, None, cond, Result, Ok, Err, OnOk}
 use Rattle.std.proofs.lemmas.Bool.{cases_eq, false≢true, false_from_ne_true, or_left, eq-eqb, ne_eqb}
 use Rattle.std.proofs.lemmas.List.{take_more, get_or_default}
 use Rattle.sat_terms.specs.Literal.{has, neg, var_of}
+use Rattle.sat_terms.specs.Normal.{IsNormal}
+use Rattle.sat_terms.specs.Truth.{Implies}
 use Rattle.sat_terms.proofs.Literals.{same_var, neg-neg, var_of-neg}
 use Rattle.clause_store.specs.Stored.{Stored, slot, slot_lits, is_firm, FirmTrue, Fills, Frees}
-use Rattle.clause_store.specs.FirmCount.{firm_count}
+use Rattle.clause_store.specs.FirmCount.{firm_passes, firm_count}
 use Rattle.clause_store.proofs.FirmCounts.{removing_counts}
 use Rattle.firm_terms.specs.Firm.{mentions, firm, stands, Holds, NoneCame}
 use Rattle.firm_terms.proofs.Standing.{stands_of, stands_from, mentions_lit, lit_of}
@@ -15,9 +17,10 @@ use Rattle.rule_kernel.specs.Rules.{firm_clause, AddsImplied, Parks}
 use Rattle.pass_terms.specs.Ruled.{IsKnown, Ruled}
 use Rattle.pass_terms.specs.Ruled.Uses.{implied, parked}
 use Rattle.pass_terms.specs.Ruled.Ruled.{none, more}
+use Rattle.pass_terms.proofs.Ruling.{ruled_trans, ruled_weaken}
 use Rattle.var_elim.specs.Testing.{lits_at, clause_at, Resolvents}
 use Rattle.var_elim.specs.Eliminating.{Settled, Extends, always, all_but, MayCome, MarksStay}
-use Rattle.var_elim.proofs.Settling.{resolvents_implied, extends_none, extends_more, extends_implied, settled_freed, freed_none, none_trans}
+use Rattle.var_elim.proofs.Settling.{resolvents_implied, extends_none, extends_more, extends_implied, settled_freed, settled_none, freed_none, none_trans, holds_none}
 
 -- the resolvents may come
 pub may_come : (s : State) (x : ℕ) (rs : List (List ℕ)) → Resolvents s.store x rs → MayCome s rs
@@ -60,10 +63,10 @@ module _ (s t : State) (rs : List (List ℕ)) (i : ℕ) (c : List ℕ) (may : Ma
   at : c ≡ clause_at rs i
   at = e ∙ get_or_default rs i c [] in'
 
-  pub next_implied : (f : ℕ → Bool) → FirmTrue t.store f → Rattle.sat_terms.specs.Truth.clause_true f c ≡ true
+  pub next_implied : Implies (FirmTrue t.store) c
   next_implied = extends_implied s.store t.store (take i rs) c h.extends (rw at (may.implied i in'))
 
-  pub next_normal : Rattle.sat_terms.specs.Normal.IsNormal c
+  pub next_normal : IsNormal c
   next_normal = rw at (may.normal i in')
 
   pub adding_more : (u : State) (id : ℕ) → AddsImplied t u c id → Adding s u (take (i + 1) rs)
@@ -100,7 +103,7 @@ module _ (s t u : State) (x id : ℕ) (p : Parking s t x) (h : Holds t.store id 
   pub parking_fewer : firm_count (λ c. true) u.store < firm_count (λ c. true) t.store
   parking_fewer =
       let e = removing_counts (λ c. true) t.store u.store id r.store in
-      let f : ◌≡◌ {A = ℕ} (cond (Rattle.clause_store.specs.FirmCount.firm_passes (λ c. true) (slot t.store id)) 1 0) 1 = rw h.firm refl in
+      let f : ◌≡◌ {A = ℕ} (cond (firm_passes (λ c. true) (slot t.store id)) 1 0) 1 = rw h.firm refl in
       omega arith
 
 -- a variable neither of whose literals is held stands in no clause
@@ -113,3 +116,30 @@ stands_gone s x p n =
       | inl e ↦ p r.0 (record { firm = r.1; has = subst (λ (z : ℕ). has (slot_lits (slot s r.0)) z ≡ true) e l.1 })
       | inr e ↦ n r.0 (record { firm = r.1; has = subst (λ (z : ℕ). has (slot_lits (slot s r.0)) z ≡ true) e l.1 })
     ])
+
+-- the whole of an elimination: resolvents come, the clauses with x go, and then those with its negation
+all_free : (x v : ℕ) → always v ≡ false → all_but x v ≡ false
+all_free x v h = absurd (false≢true (sym h))
+
+module _ (s t u w : State) (x y : ℕ) (rs : List (List ℕ)) (e : y ≡ neg x) where
+  pub ruled_added : Ruled always s t → Ruled (all_but (var_of x)) s t
+  ruled_added a = ruled_weaken always (all_but (var_of x)) s t (all_free (var_of x)) a
+
+  pub ruled_first : Ruled always s t → Ruled (all_but (var_of x)) t u → Ruled (all_but (var_of x)) s u
+  ruled_first a b = ruled_trans (all_but (var_of x)) s t u (ruled_added a) b
+
+  same : var_of y ≡ var_of x
+  same = ap var_of e ∙ var_of-neg x
+
+  pub ruled_second : Ruled always s t → Ruled (all_but (var_of x)) t u → Ruled (all_but (var_of y)) u w → Ruled (all_but (var_of x)) s w
+  ruled_second a b c = ruled_trans (all_but (var_of x)) s u w (ruled_first a b) (subst (λ (z : ℕ). Ruled (all_but z) u w) same c)
+
+  pub settled_second : ((k : ℕ) → Holds u.store k x → ⊥) → Settled u.store y
+  settled_second h = rw e (settled_none u.store x h)
+
+  pub both_gone : ((k : ℕ) → Holds u.store k x → ⊥) → NoneCame u.store w.store → ((k : ℕ) → Holds w.store k y → ⊥) → stands (firm w.store) (var_of x) ≡ false
+  both_gone p few n = stands_gone w.store x (λ k h. p k (holds_none u.store w.store k x few h)) (rw e at n)
+
+pub on_ok_map : {A E : Type 0} (r : Result A E) (P Q : Type 0) → (P → Q) → OnOk r P → OnOk r Q
+on_ok_map (Ok a) P Q f h = f h
+on_ok_map (Err e) P Q f h = h

@@ -6,3 +6,4 @@ pub mod Trying
 pub mod Making
 pub mod Settling
 pub mod Eliminating
+pub mod Choosing

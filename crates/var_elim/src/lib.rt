@@ -2,5 +2,6 @@
 #![tactic(auto)]
 
 mod eliminate;
+pub mod pass;
 mod resolve;
 mod test;

@@ -1,0 +1,209 @@
+-- Which variable is tested next.
+use Rattle.std.proofs.Common.{◌≡◌, ◌≢◌, ℕ, suc, zero, ◌+◌, ◌<◌, ◌≤◌, Bool, true, false, not, ◌||◌, ◌&&◌, eqb, cond, List, [], ◌∷◌, ◌++◌, length, get_or, take, ◌⊎◌, inl, inr, refl, sym, ap, ◌∙◌, subst, arith, Option, nat_lt}
+use Rattle.std.proofs.lemmas.Bool.{cases_Bool, cases_eq, cases_lt, false≢true, or_cases, or_left, or_right, and_parts, and_from, and_left, and_right, eq-eqb, ne_eqb, eqb-true, not_from_false, lt-leb, le-leb}
+use Rattle.sat_terms.specs.Literal.{has, neg, var_of, pos_lit, neg_lit}
+use Rattle.sat_terms.proofs.Literals.{var_of-pos_lit, var_of-neg_lit, neg-pos_lit}
+use Rattle.sat_terms.proofs.Members.{has_item, has_at, has_more, has-append_left, has-append_right, has-append_cases, same_tests}
+use Rattle.clause_store.specs.Stored.{Stored, slot, slot_lits}
+use Rattle.clause_store.specs.Listing.{HasEachOnce, holds_at}
+use Rattle.firm_terms.specs.Firm.{mentions, firm, stands, Holds}
+use Rattle.firm_terms.specs.Resolving.{holding, candidate, candidate_of}
+use Rattle.firm_terms.proofs.Standing.{stands_from, mentions_lit}
+use Rattle.rule_kernel.specs.State.{State}
+use Rattle.rule_kernel.specs.Rules.{SameButMarks}
+use Rattle.var_elim.specs.Testing.{candidate_at}
+use Rattle.var_elim.specs.Pass.{Queued, AllQueued, TakenOut, Unmarks, Picked, NoneStands, Chosen, NoneLeft}
+use Rattle.var_elim.proofs.Occurring.{all_hold, hold_all}
+use Rattle.var_elim.proofs.Eliminating.{stands_gone}
+
+-- whether a variable stands in a firm clause
+pub there_yes : (s : List (Option Stored)) (ids : List ℕ) (l v : ℕ) → HasEachOnce (holds_at s l) ids → 0 < length ids → var_of l ≡ v → stands (firm s) v ≡ true
+there_yes s ids l v each some e =
+    let h = all_hold s l ids each (get_or ids 0 0) (has_item ids 0 0 some) in
+    subst (λ (z : ℕ). stands (firm s) z ≡ true) e (stands_from s (var_of l) (get_or ids 0 0) h.firm (mentions_lit (slot_lits (slot s (get_or ids 0 0))) l h.has))
+
+none_hold : (s : List (Option Stored)) (ids : List ℕ) (l : ℕ) → HasEachOnce (holds_at s l) ids → length ids ≤ 0 → (k : ℕ) → Holds s k l → ⊥
+none_hold s [] l each none k h = false≢true (hold_all s l [] k each h)
+none_hold s (i ∷ ids) l each none k h = absurd (omega arith)
+
+pub there_no : (s : List (Option Stored)) (ids ids' : List ℕ) (v : ℕ) → HasEachOnce (holds_at s (pos_lit v)) ids → HasEachOnce (holds_at s (neg_lit v)) ids' → length ids ≤ 0 → nat_lt 0 (length ids') ≡ stands (firm s) v
+there_no s ids ids' v each each' none =
+    elim (cases_lt 0 (length ids')) [
+      | inl some ↦ (let a : nat_lt 0 (length ids') ≡ true = le-leb 1 (length ids') (omega arith) in a ∙ sym (there_yes s ids' (neg_lit v) v each' some (var_of-neg_lit v)))
+      | inr none' ↦
+          (let a : nat_lt 0 (length ids') ≡ false = lt-leb 1 (length ids') (omega arith) in
+          let p = none_hold s ids (pos_lit v) each none in
+          let n = none_hold s ids' (neg_lit v) each' none' in
+          a ∙ sym (subst (λ (z : ℕ). stands (firm s) z ≡ false) (var_of-pos_lit v) (stands_gone s (pos_lit v) p (rw (neg-pos_lit v) n))))
+    ]
+
+-- a variable that stands in no clause is no candidate
+holding_none : (cs : List (List ℕ)) (v l : ℕ) → var_of l ≡ v → stands cs v ≡ false → holding l cs ≡ []
+holding_none [] v l e h = refl
+holding_none (c ∷ cs) v l e h =
+    elim (cases_Bool (has c l)) [
+      | inl y ↦ absurd (false≢true (sym h ∙ or_left (mentions c v) (stands cs v) (subst (λ (z : ℕ). mentions c z ≡ true) e (mentions_lit c l y))))
+      | inr n ↦ rw n (holding_none cs v l e (rest (mentions c v) (stands cs v) h))
+    ] where
+      rest : (a b : Bool) → (a || b) ≡ false → b ≡ false
+      rest true b h = absurd (false≢true (sym h))
+      rest false b h = h
+
+candidate_of_none : (x : ℕ) → candidate_of x [] [] ≡ false
+unfolding candidate_of
+candidate_of_none x = refl
+
+pub candidate_none : (cs : List (List ℕ)) (v : ℕ) → stands cs v ≡ false → candidate cs v ≡ false
+candidate_none cs v h = rw (holding_none cs v (pos_lit v) (var_of-pos_lit v) h, holding_none cs v (neg_lit v) (var_of-neg_lit v) h) (candidate_of_none (pos_lit v))
+
+pub candidate_is : (cs : List (List ℕ)) (v : ℕ) → candidate_at cs (pos_lit v) ≡ candidate cs v
+candidate_is cs v = rw (neg-pos_lit v) refl
+
+-- marks are taken off
+pub unmarks_none : (s : State) → Unmarks s s
+unmarks_none s = record {
+  same = record { store = refl; rest = record { stack = refl; removals = refl; restores = refl } };
+  fewer = λ v m. m;
+  kept = λ v m st. m;
+}
+
+pub unmarks_both : (s t u : State) → Unmarks s t → Unmarks t u → Unmarks s u
+unmarks_both s t u a b = record {
+  same = record {
+    store = b.same.store ∙ a.same.store;
+    rest = record {
+      stack = b.same.rest.stack ∙ a.same.rest.stack;
+      removals = b.same.rest.removals ∙ a.same.rest.removals;
+      restores = b.same.rest.restores ∙ a.same.rest.restores;
+    };
+  };
+  fewer = λ v m. a.fewer v (b.fewer v m);
+  kept = λ v m st. b.kept v (a.kept v m st) (ap (λ z. stands (firm z) v) a.same.store ∙ st);
+}
+
+unmarks_one : (s t : State) (v : ℕ) → SameButMarks s t → ((u : ℕ) → has t.marked.vars u ≡ (has s.marked.vars u && not (eqb v u))) → stands (firm s.store) v ≡ false → Unmarks s t
+unmarks_one s t v same marks off = record {
+  same = same;
+  fewer = λ u m. (and_parts (has s.marked.vars u) (not (eqb v u)) (sym (marks u) ∙ m)).0;
+  kept = λ u m st. marks u ∙ and_from (has s.marked.vars u) (not (eqb v u)) m (not_from_false (eqb v u) (ne_eqb v u (λ e. false≢true (sym off ∙ ap (stands (firm s.store)) e ∙ st))));
+}
+
+-- variables are taken out of a queue
+pub record Popping (s t : State) (queue left : List ℕ) : Type 0 where
+  pub unmarks : Unmarks s t
+  pub within : (v : ℕ) → has left v ≡ true → has queue v ≡ true
+  pub marked : (v : ℕ) → has left v ≡ true → has s.marked.vars v ≡ true → has t.marked.vars v ≡ true
+  pub popped : (v : ℕ) → has queue v ≡ true → (has left v ≡ true) ⊎ (stands (firm s.store) v ≡ false)
+
+pub popping_none : (s : State) (queue : List ℕ) → Popping s s queue queue
+popping_none s queue = record { unmarks = unmarks_none s; within = λ v h. h; marked = λ v h m. m; popped = λ v h. inl h }
+
+module _ (s t : State) (queue left left' : List ℕ) (v : ℕ) (h : Popping s t queue left) (out : TakenOut left left' v) where
+  still : (u : ℕ) → has left' u ≡ true → (has left u ≡ true) × (v ≢ u)
+  still u i =
+      let p = and_parts (has left u) (not (eqb v u)) (sym (out.others u) ∙ i) in
+      (p.0, λ e. false≢true (sym (ap not (eq-eqb v u e)) ∙ p.1))
+
+  pub picked : stands (firm t.store) v ≡ true → Picked s t queue left' v
+  picked st = record {
+    from = h.within v out.from;
+    out = out.others v ∙ rw (eq-eqb v v refl) (and_right (has left v) false refl);
+    stands = ap (λ z. stands (firm z) v) (sym h.unmarks.same.store) ∙ st;
+    within = λ u i. h.within u (still u i).0;
+    marked = λ u i m. h.marked u (still u i).0 m;
+  }
+
+  pub popping_more : (u : State) → stands (firm t.store) v ≡ false → SameButMarks t u → ((w : ℕ) → has u.marked.vars w ≡ (has t.marked.vars w && not (eqb v w))) → Popping s u queue left'
+  popping_more u off same marks = record {
+    unmarks = unmarks_both s t u h.unmarks (unmarks_one t u v same marks off);
+    within = λ w i. h.within w (still w i).0;
+    marked = λ w i m. (let p = still w i in marks w ∙ and_from (has t.marked.vars w) (not (eqb v w)) (h.marked w p.0 m) (not_from_false (eqb v w) (ne_eqb v w p.1)));
+    popped = λ w i.
+        elim (h.popped w i) [
+          | inl a ↦
+              elim (cases_eq v w) [
+                | inl e ↦ inr (ap (stands (firm s.store)) (sym e) ∙ ap (λ z. stands (firm z) v) (sym h.unmarks.same.store) ∙ off)
+                | inr n ↦ inl (out.others w ∙ and_from (has left w) (not (eqb v w)) a (not_from_false (eqb v w) (ne_eqb v w n)))
+              ]
+          | inr b ↦ inr b
+        ];
+  }
+
+pub popping_end : (s t : State) (queue left : List ℕ) → Popping s t queue left → left ≡ [] → NoneStands s queue
+popping_end s t queue left h e v i =
+    elim (h.popped v i) [
+      | inl a ↦ absurd (false≢true (ap (λ (z : List ℕ). has z v) (sym e) ∙ a))
+      | inr b ↦ b
+    ]
+
+-- marked variables are collected
+pub record Collecting (frozen : ℕ → Bool) (marked queue : List ℕ) (i : ℕ) : Type 0 where
+  pub queued : (v : ℕ) → has queue v ≡ true → (has marked v ≡ true) × (frozen v ≡ false)
+  pub all : (v : ℕ) → has (take i marked) v ≡ true → frozen v ≡ false → has queue v ≡ true
+
+pub collecting_none : (frozen : ℕ → Bool) (marked queue : List ℕ) → queue ≡ [] → Collecting frozen marked queue 0
+collecting_none frozen marked queue e = record {
+  queued = λ v h. absurd (false≢true (ap (λ (z : List ℕ). has z v) (sym e) ∙ h));
+  all = λ v h free. absurd (false≢true h);
+}
+
+module _ (frozen : ℕ → Bool) (marked queue : List ℕ) (i v : ℕ) (h : Collecting frozen marked queue i) (in' : i < length marked) (is : v ≡ get_or marked i v) where
+  pub collecting_frozen : frozen v ≡ true → Collecting frozen marked queue (i + 1)
+  collecting_frozen y = record {
+    queued = h.queued;
+    all = λ u m free.
+        elim (has_more marked i v u in' is m) [
+          | inl a ↦ h.all u a free
+          | inr e ↦ absurd (false≢true (sym free ∙ ap frozen (sym e) ∙ y))
+        ];
+  }
+
+  pub collecting_more : (queue' : List ℕ) → frozen v ≡ false → ((u : ℕ) → has queue' u ≡ (has queue u || eqb v u)) → Collecting frozen marked queue' (i + 1)
+  collecting_more queue' n more = record {
+    queued = λ u m.
+        elim (or_cases (has queue u) (eqb v u) (sym (more u) ∙ m)) [
+          | inl a ↦ h.queued u a
+          | inr b ↦ (let e = eqb-true v u b in (subst (λ (z : ℕ). has marked z ≡ true) e (has_at marked i v in' is), ap frozen (sym e) ∙ n))
+        ];
+    all = λ u m free.
+        more u ∙ elim (has_more marked i v u in' is m) [
+          | inl a ↦ or_left (has queue u) (eqb v u) (h.all u a free)
+          | inr e ↦ or_right (has queue u) (eqb v u) (eq-eqb v u e)
+        ];
+  }
+
+-- one member more
+pub put_has : (queue : List ℕ) (v u : ℕ) → has (cond (has queue v) queue (queue ++ v ∷ [])) u ≡ (has queue u || eqb v u)
+put_has queue v u =
+    elim (cases_Bool (has queue v)) [
+      | inl y ↦
+          rw y
+          (same_tests (has queue u) (has queue u || eqb v u) (λ a. or_left (has queue u) (eqb v u) a)
+          (λ a. elim (or_cases (has queue u) (eqb v u) a) [ inl b ↦ b | inr b ↦ subst (λ (z : ℕ). has queue z ≡ true) (eqb-true v u b) y ]))
+      | inr n ↦
+          rw n
+          (same_tests (has (queue ++ v ∷ []) u) (has queue u || eqb v u)
+          (λ a. elim (has-append_cases queue (v ∷ []) u a) [
+            | inl b ↦ or_left (has queue u) (eqb v u) b
+            | inr b ↦ elim (or_cases (eqb v u) false b) [ inl d ↦ or_right (has queue u) (eqb v u) d | inr d ↦ absurd (false≢true d) ]
+          ])
+          (λ a. elim (or_cases (has queue u) (eqb v u) a) [
+            | inl b ↦ has-append_left queue (v ∷ []) u b
+            | inr b ↦ has-append_right queue (v ∷ []) u (or_left (eqb v u) false b)
+          ]))
+    ]
+
+-- the choice
+pub chosen : (frozen : ℕ → Bool) (s t : State) (queue queue' : List ℕ) (v : ℕ) → Queued frozen s queue → Unmarks s t → Picked s t queue queue' v → Chosen frozen t queue' v
+chosen frozen s t queue queue' v q a p =
+    let m = q v p.from in
+    record {
+      marked = a.kept v m.0 p.stands;
+      free = m.1;
+      stands = ap (λ z. stands (firm z) v) a.same.store ∙ p.stands;
+      out = p.out;
+      queued = λ u i. (let w = q u (p.within u i) in (p.marked u i w.0, w.1));
+    }
+
+pub none_left : (frozen : ℕ → Bool) (s t : State) (queue : List ℕ) → AllQueued frozen s queue → Unmarks s t → NoneStands s queue → NoneLeft frozen t
+none_left frozen s t queue all a none v m free = ap (λ z. stands (firm z) v) a.same.store ∙ none v (all v (a.fewer v m) free)
