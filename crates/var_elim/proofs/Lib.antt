@@ -7,3 +7,4 @@ pub mod Making
 pub mod Settling
 pub mod Eliminating
 pub mod Choosing
+pub mod Passing
