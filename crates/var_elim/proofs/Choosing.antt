@@ -12,7 +12,12 @@ use Rattle.firm_terms.proofs.Standing.{stands_from, mentions_lit}
 use Rattle.rule_kernel.specs.State.{State}
 use Rattle.rule_kernel.specs.Rules.{SameButMarks}
 use Rattle.var_elim.specs.Testing.{candidate_at}
-use Rattle.var_elim.specs.Pass.{Queued, AllQueued, TakenOut, Unmarks, Picked, NoneStands, Chosen, NoneLeft}
+use Rattle.std.specs.List.Sorted.{IsPermutation}
+use Rattle.std.proofs.lemmas.List.{take_all}
+use Rattle.std.proofs.lemmas.List.Folds.{list_any-append, list_any_more}
+use Rattle.std.proofs.lemmas.List.Sorted.{list_any-IsPermutation}
+use Rattle.var_elim.specs.declared.order.Ranked.{Ranked}
+use Rattle.var_elim.specs.Pass.{Queued, AllQueued, TakenOut, Unmarks, Picked, NoneStands, Chosen, NoneLeft, ranks, Ranks}
 use Rattle.var_elim.proofs.Occurring.{all_hold, hold_all}
 use Rattle.var_elim.proofs.Eliminating.{stands_gone}
 
@@ -136,41 +141,83 @@ popping_end s t queue left h e v i =
       | inr b ↦ b
     ]
 
--- marked variables are collected
-pub record Collecting (frozen : ℕ → Bool) (marked queue : List ℕ) (i : ℕ) : Type 0 where
-  pub queued : (v : ℕ) → has queue v ≡ true → (has marked v ≡ true) × (frozen v ≡ false)
-  pub all : (v : ℕ) → has (take i marked) v ≡ true → frozen v ≡ false → has queue v ≡ true
+-- marked variables are ranked
+pub record Ranking (frozen : ℕ → Bool) (marked : List ℕ) (all : List Ranked) (i : ℕ) : Type 0 where
+  pub queued : (v : ℕ) → ranks all v ≡ true → (has marked v ≡ true) × (frozen v ≡ false)
+  pub every : (v : ℕ) → has (take i marked) v ≡ true → frozen v ≡ false → ranks all v ≡ true
 
-pub collecting_none : (frozen : ℕ → Bool) (marked queue : List ℕ) → queue ≡ [] → Collecting frozen marked queue 0
-collecting_none frozen marked queue e = record {
-  queued = λ v h. absurd (false≢true (ap (λ (z : List ℕ). has z v) (sym e) ∙ h));
-  all = λ v h free. absurd (false≢true h);
+pub ranking_none : (frozen : ℕ → Bool) (marked : List ℕ) (all : List Ranked) → all ≡ [] → Ranking frozen marked all 0
+ranking_none frozen marked all e = record {
+  queued = λ v h. absurd (false≢true (ap (λ (z : List Ranked). ranks z v) (sym e) ∙ h));
+  every = λ v h free. absurd (false≢true h);
 }
 
-module _ (frozen : ℕ → Bool) (marked queue : List ℕ) (i v : ℕ) (h : Collecting frozen marked queue i) (in' : i < length marked) (is : v ≡ get_or marked i v) where
-  pub collecting_frozen : frozen v ≡ true → Collecting frozen marked queue (i + 1)
-  collecting_frozen y = record {
+ranks_end : (all : List Ranked) (r : Ranked) (v : ℕ) → ranks (all ++ r ∷ []) v ≡ (ranks all v || eqb r.var v)
+ranks_end all r v = list_any-append (λ (z : Ranked). eqb z.var v) all (r ∷ []) ∙ ap (λ (z : Bool). ranks all v || z) (or_none (eqb r.var v)) where
+  or_none : (b : Bool) → (b || false) ≡ b
+  or_none true = refl
+  or_none false = refl
+
+module _ (frozen : ℕ → Bool) (marked : List ℕ) (all : List Ranked) (i v : ℕ) (h : Ranking frozen marked all i) (in' : i < length marked) (is : v ≡ get_or marked i v) where
+  pub ranking_frozen : frozen v ≡ true → Ranking frozen marked all (i + 1)
+  ranking_frozen y = record {
     queued = h.queued;
-    all = λ u m free.
+    every = λ u m free.
         elim (has_more marked i v u in' is m) [
-          | inl a ↦ h.all u a free
+          | inl a ↦ h.every u a free
           | inr e ↦ absurd (false≢true (sym free ∙ ap frozen (sym e) ∙ y))
         ];
   }
 
-  pub collecting_more : (queue' : List ℕ) → frozen v ≡ false → ((u : ℕ) → has queue' u ≡ (has queue u || eqb v u)) → Collecting frozen marked queue' (i + 1)
-  collecting_more queue' n more = record {
-    queued = λ u m.
-        elim (or_cases (has queue u) (eqb v u) (sym (more u) ∙ m)) [
-          | inl a ↦ h.queued u a
-          | inr b ↦ (let e = eqb-true v u b in (subst (λ (z : ℕ). has marked z ≡ true) e (has_at marked i v in' is), ap frozen (sym e) ∙ n))
-        ];
-    all = λ u m free.
-        more u ∙ elim (has_more marked i v u in' is m) [
-          | inl a ↦ or_left (has queue u) (eqb v u) (h.all u a free)
-          | inr e ↦ or_right (has queue u) (eqb v u) (eq-eqb v u e)
-        ];
-  }
+  pub ranking_more : (all' : List Ranked) (r : Ranked) → all' ≡ all ++ r ∷ [] → r.var ≡ v → frozen v ≡ false → Ranking frozen marked all' (i + 1)
+  ranking_more all' r e q n =
+      let is' : (u : ℕ) → ranks all' u ≡ (ranks all u || eqb v u) = λ u. ap (λ (z : List Ranked). ranks z u) e ∙ ranks_end all r u ∙ ap (λ (z : ℕ). ranks all u || eqb z u) q in
+      record {
+        queued = λ u m.
+            elim (or_cases (ranks all u) (eqb v u) (sym (is' u) ∙ m)) [
+              | inl a ↦ h.queued u a
+              | inr b ↦ (let f = eqb-true v u b in (subst (λ (z : ℕ). has marked z ≡ true) f (has_at marked i v in' is), ap frozen (sym f) ∙ n))
+            ];
+        every = λ u m free.
+            is' u ∙ elim (has_more marked i v u in' is m) [
+              | inl a ↦ or_left (ranks all u) (eqb v u) (h.every u a free)
+              | inr f ↦ or_right (ranks all u) (eqb v u) (eq-eqb v u f)
+            ];
+      }
+
+pub ranking_end : (frozen : ℕ → Bool) (marked : List ℕ) (all : List Ranked) (i : ℕ) → Ranking frozen marked all i → length marked ≤ i → Ranks frozen marked all
+ranking_end frozen marked all i h le = record { queued = h.queued; every = λ v m free. h.every v (ap (λ (z : List ℕ). has z v) (take_all i marked le) ∙ m) free }
+
+-- in another order they are ranked as well
+pub ranks_sorted : (frozen : ℕ → Bool) (marked : List ℕ) (all sorted : List Ranked) → Ranks frozen marked all → IsPermutation all sorted → Ranks frozen marked sorted
+ranks_sorted frozen marked all sorted h p =
+    let same : (v : ℕ) → ranks all v ≡ ranks sorted v = λ v. list_any-IsPermutation (λ (z : Ranked). eqb z.var v) all sorted p in
+    record {
+      queued = λ v m. h.queued v (same v ∙ m);
+      every = λ v m free. sym (same v) ∙ h.every v m free;
+    }
+
+-- the ranked variables come into a queue
+pub record Filling (all : List Ranked) (queue : List ℕ) (i : ℕ) : Type 0 where
+  pub filled : (v : ℕ) → has queue v ≡ ranks (take i all) v
+
+pub filling_none : (all : List Ranked) (queue : List ℕ) → queue ≡ [] → Filling all queue 0
+filling_none all queue e = record { filled = λ v. ap (λ (z : List ℕ). has z v) e }
+
+pub filling_more : (all : List Ranked) (queue queue' : List ℕ) (i : ℕ) (r : Ranked) → Filling all queue i → i < length all → r ≡ get_or all i r → ((v : ℕ) → has queue' v ≡ (has queue v || eqb r.var v)) → Filling all queue' (i + 1)
+filling_more all queue queue' i r h in' is more = record {
+  filled = λ v. more v ∙ ap (λ (z : Bool). z || eqb r.var v) (h.filled v) ∙ sym (list_any_more (λ (z : Ranked). eqb z.var v) all i r in' ∙ ap (λ (z : Ranked). ranks (take i all) v || eqb z.var v) (sym is));
+}
+
+module _ (frozen : ℕ → Bool) (s : State) (all : List Ranked) (queue : List ℕ) (i : ℕ) (r : Ranks frozen s.marked.vars all) (h : Filling all queue i) (le : length all ≤ i) where
+  filled : (v : ℕ) → has queue v ≡ ranks all v
+  filled v = h.filled v ∙ ap (λ (z : List Ranked). ranks z v) (take_all i all le)
+
+  pub filling_queued : Queued frozen s queue
+  filling_queued v m = r.queued v (sym (filled v) ∙ m)
+
+  pub filling_all : AllQueued frozen s queue
+  filling_all v m free = filled v ∙ r.every v m free
 
 -- one member more
 pub put_has : (queue : List ℕ) (v u : ℕ) → has (cond (has queue v) queue (queue ++ v ∷ [])) u ≡ (has queue u || eqb v u)

@@ -1,5 +1,5 @@
 -- The pass: which variable comes next, what a turn does, and how the pass ends.
-use Rattle.std.specs.List.{count_by}
+use Rattle.std.specs.List.{count_by, list_any}
 use Rattle.std.specs.Prelude.{◌≡◌, ◌≢◌, ◌<◌, ◌≤◌, ◌+◌, ◌*◌, ◌/◌, ◌==◌, ◌&&◌, ◌⊎◌, ℕ, Bool, true, false, not, List, Option, length}
 use Rattle.sat_terms.specs.Literal.{has}
 use Rattle.clause_store.specs.Stored.{Stored}
@@ -9,6 +9,7 @@ use Rattle.rule_kernel.specs.declared.report.Ended.{Ended}
 use Rattle.rule_kernel.specs.declared.report.Ended.TheVariants.{Fixpoint, Limit}
 use Rattle.rule_kernel.specs.State.{State}
 use Rattle.rule_kernel.specs.Rules.{SameButMarks}
+use Rattle.var_elim.specs.declared.order.Ranked.{Ranked}
 
 -- no variable that is not frozen is a candidate
 abbrev pub NoCandidates : (ℕ → Bool) → List (Option Stored) → Type 0
@@ -38,6 +39,14 @@ Queued frozen s queue = (v : ℕ) → has queue v ≡ true → (has s.marked.var
 -- every marked variable is frozen or stands in a queue
 abbrev pub AllQueued : (ℕ → Bool) → State → List ℕ → Type 0
 AllQueued frozen s queue = (v : ℕ) → has s.marked.vars v ≡ true → frozen v ≡ false → has queue v ≡ true
+
+-- The ranked variables are those of a list that are not frozen.
+abbrev pub ranks : List Ranked → ℕ → Bool
+ranks all v = list_any (λ r. r.var == v) all
+
+pub record Ranks (frozen : ℕ → Bool) (marked : List ℕ) (all : List Ranked) : Type 0 where
+  pub queued : (v : ℕ) → ranks all v ≡ true → (has marked v ≡ true) × (frozen v ≡ false)
+  pub every : (v : ℕ) → has marked v ≡ true → frozen v ≡ false → ranks all v ≡ true
 
 -- a variable was taken out of a queue
 pub record TakenOut (queue queue' : List ℕ) (v : ℕ) : Type 0 where

@@ -2,6 +2,7 @@
 #![tactic(auto)]
 
 mod eliminate;
+mod order;
 pub mod pass;
 mod resolve;
 mod test;

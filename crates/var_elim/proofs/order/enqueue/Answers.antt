@@ -1,7 +1,7 @@
 use Rattle.std.proofs.Common.{◌≡◌, ◌∙◌, ℕ, List, ap, refl}
 use Rattle.sat_terms.specs.Literal.{has}
 use Rattle.var_elim.proofs.Choosing.{put_has}
-use Rattle.var_elim.proofs.pass.enqueue.Goals as goal
+use Rattle.var_elim.proofs.order.enqueue.Goals as goal
 
 pub returns : goal.returns
 returns c v =

@@ -1,6 +1,6 @@
 use Rattle.std.proofs.Common.{length}
 use Rattle.var_elim.proofs.Choosing.{Popping}
-use Rattle.var_elim.proofs.pass.pop_standing.Given as goal
+use Rattle.var_elim.proofs.order.pop_standing.Given as goal
 
 abbrev pub invariant-loop-var : goal.invariant-loop-var
 invariant-loop-var l = Popping l.fn.kernel l.kernel l.fn.queue.members l.queue.members
