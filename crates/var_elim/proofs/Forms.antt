@@ -127,15 +127,15 @@ not_longer (x ∷ xs) ys o h =
     let there = times_has ys x (h x first) in
     let w = length_without x ys in
     let alone : has xs x ≡ false = false_from_ne_true (has xs x) (λ t.
-        let a = times_has xs x t in
-        let b = times-cons x xs x in
-        let z : one (eqb x x) ≡ 1 = ap one (eq-eqb x x refl) in
-        let m = o x in
-        absurd (omega (arith, a, b, z, m))) in
+    let a = times_has xs x t in
+    let b = times-cons x xs x in
+    let z : one (eqb x x) ≡ 1 = ap one (eq-eqb x x refl) in
+    let m = o x in
+    absurd (omega (arith, a, b, z, m))) in
     let rest : Once xs = λ l. (let b = times-cons x xs l in let m = o l in omega (arith, b, m)) in
     let r = not_longer xs (without x ys) rest (λ l i.
-        let ne : l ≢ x = λ e. false≢true (sym alone ∙ subst (λ (z : ℕ). has xs z ≡ true) e i) in
-        has_without ys x l ∙ and_from (has ys l) (not (eqb l x)) (h l (or_right (eqb x l) (has xs l) i)) (not_from_false (eqb l x) (ne_eqb l x ne))) in
+    let ne : l ≢ x = λ e. false≢true (sym alone ∙ subst (λ (z : ℕ). has xs z ≡ true) e i) in
+    has_without ys x l ∙ and_from (has ys l) (not (eqb l x)) (h l (or_right (eqb x l) (has xs l) i)) (not_from_false (eqb l x) (ne_eqb l x ne))) in
     omega (arith, r, w, there)
 
 pub form_length : (form c : List ℕ) → IsFormOf form c → length form ≡ length (distinct c)

@@ -85,8 +85,8 @@ candidate_same x ps qs ns ms p n =
     let up : list_any is_unit ps ≡ list_any is_unit qs = same_any ps qs p is_unit in
     let un : list_any is_unit ns ≡ list_any is_unit ms = same_any ns ms n is_unit in
     let a : length (resolvents x ps ns) ≡ length (resolvents x qs ms) =
-        length_resolvents x ps ns ∙ sum_same (width x ns) (width x ms) ps (λ c. n (λ d. one (is_clear x c d))) ∙ p (width x ms) ∙ sym (length_resolvents x qs ms) in
+    length_resolvents x ps ns ∙ sum_same (width x ns) (width x ms) ps (λ c. n (λ d. one (is_clear x c d))) ∙ p (width x ms) ∙ sym (length_resolvents x qs ms) in
     let b : list_all is_short (resolvents x ps ns) ≡ list_all is_short (resolvents x qs ms) =
-        all_resolvents x ps ns ∙ all_same (λ c. list_all (is_fine x c) ns) (λ c. list_all (is_fine x c) ms) ps (λ c. same_all ns ms n (is_fine x c))
-        ∙ same_all ps qs p (λ c. list_all (is_fine x c) ms) ∙ sym (all_resolvents x qs ms) in
+    all_resolvents x ps ns ∙ all_same (λ c. list_all (is_fine x c) ns) (λ c. list_all (is_fine x c) ms) ps (λ c. same_all ns ms n (is_fine x c))
+    ∙ same_all ps qs p (λ c. list_all (is_fine x c) ms) ∙ sym (all_resolvents x qs ms) in
     rw (lp, ln, up, un, a, b) refl

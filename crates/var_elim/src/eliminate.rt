@@ -1,4 +1,16 @@
 //! A variable is eliminated: its resolvents come, and its clauses are parked.
+//!
+//! The resolvents come first, as clauses that the firm ones imply. Then each clause with the literal x is parked with x as witness, and
+//! after them each with the negation, with that as witness (Eén and Biere 2005; Järvisalo, Heule and Biere, "Inprocessing rules", IJCAR
+//! 2012). What allows the first is that wherever a clause `x or A` is false and the others are true, x may be set true: a clause `-x or B`
+//! stays true, since the resolvent `A or B` is true and A is not. If that resolvent is a tautology, B has the negation of a literal of A.
+//!
+//! The resolvents hold neither x nor its negation, so none of them is parked, and what allows the first clause allows each: it speaks of the
+//! pairs that are left and of the clauses about neither literal, and parking changes neither (`Settled`). Once all clauses with x are
+//! gone there is no pair left, and the same holds of the negation.
+//!
+//! Want of memory may stop this after any rule. What is there then is a kernel that its rules allow, with some resolvents more or some
+//! clauses fewer.
 ghost use Rattle.std.specs.Prelude.{◌≡◌, ◌<◌, ℕ, true, false, length, IfSome, IfNone, OnOk};
 ghost use Rattle.sat_terms.specs.Literal.{has, var_of};
 ghost use Rattle.firm_terms.specs.Firm.{firm, stands, Holds, NoneCame};

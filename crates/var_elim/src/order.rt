@@ -1,4 +1,17 @@
 //! Which variable is tested next.
+//!
+//! The variables that are marked and not frozen wait in a queue. It is filled where it has run empty, and what is marked meanwhile waits
+//! for the next time; so all that the frozen variables cost is one look at each whenever the queue is filled. Where it stays empty no
+//! marked variable is left but frozen ones, and the pass is done.
+//!
+//! The variable with the fewest pairs of clauses comes first. It is tested at the least cost and is the likeliest candidate, and after its
+//! elimination others may have fewer clauses (Eén and Biere 2005). The ranks are found when the queue is filled, and a sort brings the
+//! variables into order; they are not kept up to date while the queue empties, since what an elimination changes is marked and ranked
+//! again soon. The last of a queue is taken out first, which costs nothing there.
+//!
+//! By the time that its turn comes a variable may stand in no clause any more. It is no candidate then, and neither tested nor counted.
+//!
+//! A queue is a work list, in which no variable stands twice: each is tested once, and is marked yet when it is.
 ghost use Rattle.std.specs.Prelude.{◌≡◌, ◌||◌, ◌==◌, ℕ, [], true, false, IfOk, IfSome, IfNone, OnOk};
 ghost use Rattle.sat_terms.specs.Literal.{has};
 ghost use Rattle.firm_terms.specs.Firm.{firm, stands};
@@ -125,4 +138,3 @@ pub(crate) fn next_var(
     collect(kernel, frozen, queue)?;
     Ok(pop_standing(kernel, queue))
 }
-

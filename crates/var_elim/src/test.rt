@@ -1,4 +1,16 @@
 //! Whether a variable is a candidate.
+//!
+//! First is looked at what costs no resolution: whether there are clauses, at most 400 pairs of them, and none of one literal. Then each
+//! clause that holds the literal is resolved with each that holds the negation. A resolvent that is no tautology is kept, for if the
+//! variable is a candidate these are the clauses that come in the end. The test ends early with the first resolvent that is one too many,
+//! or has more than 100 literals: what would follow cannot make up for it. So most variables that are no candidates are found out after
+//! few pairs.
+//!
+//! A pair is a step. The test is told how many steps are left, and ends where one more is needed; then nothing is known of the variable,
+//! and nothing was changed.
+//!
+//! A store lists the clauses of a literal in no stated order, and the definition of a candidate takes them in the order of their ids. The
+//! number of resolvents and the length of the longest one are the same in both orders, and so is what an early end says.
 ghost use Rattle.std.specs.Prelude.{◌≡◌, ◌<◌, ◌≤◌, ◌*◌, ◌+◌, ℕ, [], ◌∷◌, true, false, IfOk, length, map, nat_le};
 ghost use Rattle.std.specs.List.{list_any};
 ghost use Rattle.sat_terms.specs.Literal.{neg as opposite};
@@ -106,7 +118,13 @@ fn resolve_pair(
         return Ok(Outcome::Spent);
     }
     work.pairs += 1;
-    match resolve(alloc, store.get(left), store.get(right), lit, &mut work.scratch)? {
+    match resolve(
+        alloc,
+        store.get(left),
+        store.get(right),
+        lit,
+        &mut work.scratch,
+    )? {
         None => Ok(Outcome::Fits),
         Some(form) => {
             if work.resolvents.len() >= most {
