@@ -17,7 +17,7 @@ use Rattle.std.proofs.lemmas.List.{take_all}
 use Rattle.std.proofs.lemmas.List.Folds.{list_any-append, list_any_more}
 use Rattle.std.proofs.lemmas.List.Sorted.{list_any-IsPermutation}
 use Rattle.var_elim.specs.declared.order.Ranked.{Ranked}
-use Rattle.var_elim.specs.Pass.{Queued, AllQueued, TakenOut, Unmarks, Picked, NoneStands, Chosen, NoneLeft, ranks, Ranks}
+use Rattle.var_elim.specs.Pass.{Queued, AllQueued, TakenOut, Unmarks, Picked, NoneStands, Chosen, AllFrozen, NoneLeft, ranks, Ranks}
 use Rattle.var_elim.proofs.Occurring.{all_hold, hold_all}
 use Rattle.var_elim.proofs.Eliminating.{stands_gone}
 
@@ -99,15 +99,19 @@ pub record Popping (s t : State) (queue left : List ℕ) : Type 0 where
   pub within : (v : ℕ) → has left v ≡ true → has queue v ≡ true
   pub marked : (v : ℕ) → has left v ≡ true → has s.marked.vars v ≡ true → has t.marked.vars v ≡ true
   pub popped : (v : ℕ) → has queue v ≡ true → (has left v ≡ true) ⊎ (stands (firm s.store) v ≡ false)
+  pub idle : queue ≡ [] → (left ≡ []) × (t ≡ s)
 
 pub popping_none : (s : State) (queue : List ℕ) → Popping s s queue queue
-popping_none s queue = record { unmarks = unmarks_none s; within = λ v h. h; marked = λ v h m. m; popped = λ v h. inl h }
+popping_none s queue = record { unmarks = unmarks_none s; within = λ v h. h; marked = λ v h m. m; popped = λ v h. inl h; idle = λ e. (e, refl) }
 
 module _ (s t : State) (queue left left' : List ℕ) (v : ℕ) (h : Popping s t queue left) (out : TakenOut left left' v) where
   still : (u : ℕ) → has left' u ≡ true → (has left u ≡ true) × (v ≢ u)
   still u i =
       let p = and_parts (has left u) (not (eqb v u)) (sym (out.others u) ∙ i) in
       (p.0, λ e. false≢true (sym (ap not (eq-eqb v u e)) ∙ p.1))
+
+  pub never : queue ≡ [] → ⊥
+  never e = false≢true (ap (λ (z : List ℕ). has z v) (sym (h.idle e).0) ∙ out.from)
 
   pub picked : stands (firm t.store) v ≡ true → Picked s t queue left' v
   picked st = record {
@@ -132,6 +136,7 @@ module _ (s t : State) (queue left left' : List ℕ) (v : ℕ) (h : Popping s t 
               ]
           | inr b ↦ inr b
         ];
+    idle = λ e. absurd (never e);
   }
 
 pub popping_end : (s t : State) (queue left : List ℕ) → Popping s t queue left → left ≡ [] → NoneStands s queue
@@ -254,3 +259,16 @@ chosen frozen s t queue queue' v q a p =
 
 pub none_left : (frozen : ℕ → Bool) (s t : State) (queue : List ℕ) → AllQueued frozen s queue → Unmarks s t → NoneStands s queue → NoneLeft frozen t
 none_left frozen s t queue all a none v m free = ap (λ z. stands (firm z) v) a.same.store ∙ none v (all v (a.fewer v m) free)
+
+-- where every marked variable is frozen none is queued
+no_members : (queue : List ℕ) → ((v : ℕ) → has queue v ≡ true → ⊥) → queue ≡ []
+no_members [] h = refl
+no_members (x ∷ queue) h = absurd (h x (or_left (eqb x x) (has queue x) (eq-eqb x x refl)))
+
+pub none_queued : (frozen : ℕ → Bool) (s : State) (queue : List ℕ) → AllFrozen frozen s → Queued frozen s queue → queue ≡ []
+none_queued frozen s queue all q = no_members queue (λ v h. (let m = q v h in false≢true (sym m.1 ∙ all v m.0)))
+
+pub idle_both : (frozen : ℕ → Bool) (s t u : State) (queue queue' : List ℕ) → (queue ≡ [] → t ≡ s) → Queued frozen t queue' → (queue' ≡ [] → u ≡ t) → AllFrozen frozen s → queue ≡ [] → u ≡ s
+idle_both frozen s t u queue queue' first q second all e =
+    let a = first e in
+    second (none_queued frozen t queue' (subst (AllFrozen frozen) (sym a) all) q) ∙ a

@@ -15,7 +15,7 @@ use Rattle.pass_terms.specs.Ruled.Uses.{unmarked}
 use Rattle.pass_terms.specs.Ruled.Ruled.{none, more}
 use Rattle.pass_terms.proofs.Ruling.{ruled_trans, ruled_weaken, ruled_stands, ruled_gone}
 use Rattle.var_elim.specs.Eliminating.{all_but, MarksStay}
-use Rattle.var_elim.specs.Pass.{NoCandidates, freed, ReachesLimit, Queued, Unmarks, Chosen, NoneLeft, WentOn, Stopped}
+use Rattle.var_elim.specs.Pass.{NoCandidates, freed, ReachesLimit, Queued, Unmarks, Chosen, AllFrozen, NoneLeft, WentOn, Stopped}
 use Rattle.var_elim.proofs.Choosing.{candidate_none}
 
 -- a mark is taken off
@@ -150,6 +150,17 @@ pub record Passing (frozen : ℕ → Bool) (s t : State) (queue : List ℕ) (ste
   pub spent : Within (length (vars (firm s.store))) (freed frozen (vars (firm s.store)) (firm t.store)) (count_by (has t.marked.vars) (vars (firm s.store))) steps
   pub within : steps ≤ limit
   pub queued : Queued frozen t queue
+  pub idle : AllFrozen frozen s → (t ≡ s) × (queue ≡ [])
+
+-- nothing is chosen where every marked variable is frozen
+pub still_idle : (frozen : ℕ → Bool) (s t u : State) (queue : List ℕ) (steps limit : ℕ) → Passing frozen s t queue steps limit → (AllFrozen frozen t → queue ≡ [] → u ≡ t) → AllFrozen frozen s → u ≡ s
+still_idle frozen s t u queue steps limit p quiet all =
+    let a = p.idle all in
+    quiet (subst (AllFrozen frozen) (sym a.0) all) a.1 ∙ a.0
+
+pub never_chosen : (frozen : ℕ → Bool) (s u : State) (queue : List ℕ) (v : ℕ) → Chosen frozen u queue v → (AllFrozen frozen s → u ≡ s) → AllFrozen frozen s → ⊥
+never_chosen frozen s u queue v ch same all =
+    false≢true (sym ch.free ∙ all v (subst (λ (z : State). has z.marked.vars v ≡ true) (same all) ch.marked))
 
 pub passing_none : (frozen : ℕ → Bool) (s : State) (queue : List ℕ) (limit : ℕ) → queue ≡ [] → Passing frozen s s queue 0 limit
 passing_none frozen s queue limit e = record {
@@ -162,15 +173,17 @@ passing_none frozen s queue limit e = record {
       omega (arith, c, k));
   within = omega arith;
   queued = λ v h. absurd (false≢true (ap (λ (z : List ℕ). has z v) (sym e) ∙ h));
+  idle = λ all. (refl, e);
 }
 
-pub passing_unmarked : (frozen : ℕ → Bool) (s t u : State) (queue queue' : List ℕ) (steps limit : ℕ) → Passing frozen s t queue steps limit → Unmarks t u → Queued frozen u queue' → Passing frozen s u queue' steps limit
-passing_unmarked frozen s t u queue queue' steps limit p m q = record {
+pub passing_unmarked : (frozen : ℕ → Bool) (s t u : State) (queue queue' : List ℕ) (v steps limit : ℕ) → Passing frozen s t queue steps limit → Unmarks t u → (AllFrozen frozen t → queue ≡ [] → u ≡ t) → Chosen frozen u queue' v → Passing frozen s u queue' steps limit
+passing_unmarked frozen s t u queue queue' v steps limit p m quiet ch = record {
   ruled = ruled_turned frozen s t u p.ruled m.same;
   spent = rw m.same.store (within_fewer (length (vars (firm s.store))) (freed frozen (vars (firm s.store)) (firm t.store)) (count_by (has t.marked.vars) (vars (firm s.store))) (count_by (has u.marked.vars) (vars (firm s.store))) steps p.spent
       (count_le (has u.marked.vars) (has t.marked.vars) (vars (firm s.store)) m.fewer));
   within = p.within;
-  queued = q;
+  queued = ch.queued;
+  idle = λ all. absurd (never_chosen frozen s u queue' v ch (still_idle frozen s t u queue steps limit p quiet) all);
 }
 
 only_that : (frozen : ℕ → Bool) (v u : ℕ) → frozen v ≡ false → all_but v u ≡ false → frozen u ≡ false
@@ -186,6 +199,9 @@ module _ (frozen : ℕ → Bool) (s t u : State) (queue : List ℕ) (v a b limit
 
   one_left : 1 ≤ count_by (has t.marked.vars) (vars (firm s.store))
   one_left = count_some (has t.marked.vars) (vars (firm s.store)) v known ch.marked
+
+  pub busy : AllFrozen frozen s → ⊥
+  busy all = never_chosen frozen s t queue v ch (λ a. (p.idle a).0) all
 
   pub turn_ruled : Ruled (all_but v) t u → Ruled frozen t u
   turn_ruled r = ruled_weaken (all_but v) frozen t u (λ w h. only_that frozen v w ch.free h) r
@@ -222,6 +238,7 @@ module _ (frozen : ℕ → Bool) (s t u : State) (queue : List ℕ) (v a b limit
         (let q = ch.queued x h in
         let n : x ≢ v = λ e. false≢true (sym ch.out ∙ ap (has queue) (sym e) ∙ h) in
         (w.kept x n q.0, q.1));
+    idle = λ all. absurd (busy all);
   }
 
   pub limit_reached : Stopped t u a b limit → ReachesLimit frozen s.store u.store limit b

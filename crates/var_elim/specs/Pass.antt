@@ -80,6 +80,10 @@ pub record Chosen (frozen : ℕ → Bool) (s : State) (queue : List ℕ) (v : �
   pub out : has queue v ≡ false
   pub queued : Queued frozen s queue
 
+-- every marked variable is frozen
+abbrev pub AllFrozen : (ℕ → Bool) → State → Type 0
+AllFrozen frozen s = (v : ℕ) → has s.marked.vars v ≡ true → frozen v ≡ true
+
 -- a marked variable that is not frozen stands in no firm clause
 abbrev pub NoneLeft : (ℕ → Bool) → State → Type 0
 NoneLeft frozen s = (v : ℕ) → has s.marked.vars v ≡ true → frozen v ≡ false → stands (firm s.store) v ≡ false

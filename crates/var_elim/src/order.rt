@@ -16,7 +16,7 @@ ghost use Rattle.std.specs.Prelude.{◌≡◌, ◌||◌, ◌==◌, ℕ, [], true
 ghost use Rattle.sat_terms.specs.Literal.{has};
 ghost use Rattle.firm_terms.specs.Firm.{firm, stands};
 ghost use Rattle.rule_kernel.specs.Frozen.{is_frozen};
-ghost use Rattle.var_elim.specs.Pass.{Queued, AllQueued, TakenOut, Unmarks, Picked, NoneStands, Chosen, NoneLeft, Ranks};
+ghost use Rattle.var_elim.specs.Pass.{Queued, AllQueued, TakenOut, Unmarks, Picked, NoneStands, Chosen, AllFrozen, NoneLeft, Ranks};
 
 use clause_store::store::Store;
 use flag_set::work::WorkList;
@@ -66,6 +66,7 @@ fn pop_standing(kernel: &mut Kernel, queue: &mut WorkList<Var>) -> Option<Var>
     ensures some { IfSome result (λ var. Picked kernel.old kernel.new queue.old.members queue.new.members var) }
     ensures none { IfNone result (NoneStands kernel.old queue.old.members) }
     ensures left { IfNone result (queue.new.members ≡ []) }
+    ensures idle { queue.old.members ≡ [] → kernel.new ≡ kernel.old }
 {
     while let Some(var) = pop(queue) {
         if is_there(kernel.store(), var) {
@@ -129,6 +130,7 @@ pub(crate) fn next_var(
 ) -> Result<Option<Var>, Memory>
     requires { Queued (is_frozen frozen.now) kernel.old queue.old.members }
     ensures unmarks { Unmarks kernel.old kernel.new }
+    ensures idle { AllFrozen (is_frozen frozen.now) kernel.old → queue.old.members ≡ [] → kernel.new ≡ kernel.old }
     ensures some { IfOk result (λ found. IfSome found (λ var. Chosen (is_frozen frozen.now) kernel.new queue.new.members var)) }
     ensures none { IfOk result (λ found. IfNone found (NoneLeft (is_frozen frozen.now) kernel.new)) }
 {

@@ -21,9 +21,10 @@
 //! is another pass.
 ghost use Rattle.std.specs.Prelude.{◌≡◌, ◌≤◌, ◌-◌, IfOk, MatchBool};
 ghost use Rattle.rule_kernel.specs.Frozen.{is_frozen};
+ghost use Rattle.rule_kernel.specs.declared.report.Ended.TheVariants.{Fixpoint};
 ghost use Rattle.pass_terms.specs.Ruled.{Ruled};
 ghost use Rattle.var_elim.specs.Eliminating.{all_but};
-ghost use Rattle.var_elim.specs.Pass.{Ends, WentOn, Stopped};
+ghost use Rattle.var_elim.specs.Pass.{Ends, AllFrozen, WentOn, Stopped};
 
 use crate::eliminate::eliminate;
 use crate::order::next_var;
@@ -68,6 +69,8 @@ fn turn(kernel: &mut Kernel, var: Var, steps: &mut u64, limit: u64) -> Result<bo
 fn take_turns(kernel: &mut Kernel, frozen: &Frozen, limit: u64) -> Result<Ended, Memory>
     ensures ruled { Ruled (is_frozen frozen.now) kernel.old kernel.new }
     ensures ended { IfOk result (λ ended. Ends (is_frozen frozen.now) kernel.old.store kernel.new.store limit ended) }
+    ensures idle { AllFrozen (is_frozen frozen.now) kernel.old → kernel.new ≡ kernel.old }
+    ensures idle_ends { IfOk result (λ ended. AllFrozen (is_frozen frozen.now) kernel.old → ended ≡ Fixpoint) }
 {
     let mut queue = WorkList::new(kernel.alloc());
     let mut steps = 0;
@@ -93,11 +96,13 @@ fn take_turns(kernel: &mut Kernel, frozen: &Frozen, limit: u64) -> Result<Ended,
 ///
 /// The kernel changes by its rules alone, as passes may use them (`Ruled`), whatever is answered: after `Memory` it is as the last rule left
 /// it. `removed` is the rise of the kernel's count of removals. An empty clause that is firm hinders nothing. Variables without a
-/// mark are not tested: these are no candidates.
+/// mark are not tested: these are no candidates. Where every marked variable is frozen, nothing changes, and the answer is `Fixpoint`.
 pub fn run(kernel: &mut Kernel, frozen: &Frozen, limit: u64) -> Result<PassReport, Memory>
     ensures ruled { Ruled (is_frozen frozen.now) kernel.old kernel.new }
     ensures removed { IfOk result (λ report. report.removed ≡ kernel.new.removals - kernel.old.removals) }
     ensures ended { IfOk result (λ report. Ends (is_frozen frozen.now) kernel.old.store kernel.new.store limit report.ended) }
+    ensures idle { AllFrozen (is_frozen frozen.now) kernel.old → kernel.new ≡ kernel.old }
+    ensures idle_ends { IfOk result (λ report. AllFrozen (is_frozen frozen.now) kernel.old → report.ended ≡ Fixpoint) }
 {
     let removals = kernel.removals();
     let ended = take_turns(kernel, frozen, limit)?;
