@@ -1,0 +1,4 @@
+pub mod Merging
+pub mod Testing
+pub mod Eliminating
+pub mod Pass
