@@ -16,11 +16,11 @@ use Rattle.firm_terms.proofs.Counting.{one_if, count_firm, count_filled, count_f
 use Rattle.firm_terms.proofs.Summing.{sum_filled, sum_freed, firm_size_is}
 use Rattle.rule_kernel.specs.State.{State}
 use Rattle.rule_kernel.specs.Rules.{firm_clause, AddsImplied, DropsImplied}
-use Rattle.pass_terms.specs.Ruled.{IsKnown, Uses, Ruled}
+use Rattle.pass_terms.specs.Ruled.{IsKnown, Uses, Ruled, always}
 use Rattle.pass_terms.specs.Ruled.Uses.{implied, dropped}
 use Rattle.pass_terms.specs.Ruled.Ruled.{none, more}
 use Rattle.subsume_pass.specs.declared.change.Change.TheVariants.{Kept, Gone, Came}
-use Rattle.subsume_pass.specs.Changing.{always, size, Falls, Cut, Drops, Changes}
+use Rattle.subsume_pass.specs.Changing.{size, Falls, Cut, Drops, Changes}
 use Rattle.subsume_pass.proofs.Clauses.{has_removed, removed_has, removed_gone}
 use Rattle.subsume_pass.proofs.Comparing.{free_missing}
 

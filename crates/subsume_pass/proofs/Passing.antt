@@ -1,4 +1,5 @@
 -- What holds between two turns.
+use Rattle.pass_terms.proofs.Ruling.{for_any, ruled_trans, ruled_weaken}
 use Rattle.std.proofs.Common.{◌≡◌, ◌≢◌, ℕ, suc, zero, ◌+◌, ◌-◌, ◌*◌, ◌/◌, ◌<◌, ◌≤◌, Bool, true, false, List, [], length, Option, inl, inr, refl, sym, ap, ◌∙◌, arith, leb}
 use Rattle.std.proofs.Math.Nat.{mul-le-mul_left, mul-le-mul_right, mul-add, mul_assoc, mul-one, mul-div-le}
 use Rattle.std.proofs.lemmas.Bool.{leb-true, false≢true, cases_lt, cases_Bool}
@@ -11,11 +12,10 @@ use Rattle.firm_terms.proofs.Counting.{count_ids}
 use Rattle.rule_kernel.specs.Waiting.{Waiting}
 use Rattle.rule_kernel.specs.State.{State, IsPromised}
 use Rattle.rule_kernel.specs.Rules.{SameButMarks}
-use Rattle.pass_terms.specs.Ruled.{Ruled}
+use Rattle.pass_terms.specs.Ruled.{Ruled, always}
 use Rattle.pass_terms.specs.Ruled.Ruled.{none, more}
 use Rattle.pass_terms.specs.Ruled.Uses.{unmarked}
-use Rattle.pass_terms.proofs.Ruling.{ruled_trans, ruled_weaken}
-use Rattle.subsume_pass.specs.Changing.{always, size, Falls}
+use Rattle.subsume_pass.specs.Changing.{size, Falls}
 use Rattle.subsume_pass.specs.Trying.{waits, different, Advances, Stops}
 use Rattle.subsume_pass.specs.Pass.{IsIdle, IsFixpoint, ReachesLimit}
 use Rattle.subsume_pass.proofs.Setting.{some_lits}
@@ -144,10 +144,6 @@ few_all_due s t same due fresh =
     let b : different t.waiting.fresh ≡ 0 = ap different fresh in
     let e : length (firm t.store) ≡ length (firm s.store) = ap (λ z. length (firm z)) same in
     omega arith
-
--- where no variable is free nothing was parked
-pub for_any : (frozen : ℕ → Bool) (s t : State) → Ruled always s t → Ruled frozen s t
-for_any frozen s t h = ruled_weaken always frozen s t (λ v e. absurd (false≢true (sym e))) h
 
 pub ruled_marked : (frozen : ℕ → Bool) (s t u : State) → SameButMarks s t → Ruled always t u → Ruled frozen s u
 ruled_marked frozen s t u same h = for_any frozen s u (ruled_trans always s t u (more s t none (unmarked same)) h)

@@ -8,11 +8,11 @@ use Rattle.firm_terms.specs.Firm.{firm}
 use Rattle.firm_terms.specs.Subsuming.{IsFree}
 use Rattle.rule_kernel.specs.State.{State}
 use Rattle.rule_kernel.specs.Rules.{SameButMarks}
-use Rattle.pass_terms.specs.Ruled.{Ruled}
+use Rattle.pass_terms.specs.Ruled.{Ruled, always}
 use Rattle.pass_terms.specs.Ruled.Ruled.{none}
 use Rattle.pass_terms.proofs.Ruling.{ruled_trans}
 use Rattle.subsume_pass.specs.Choosing.{AreSources}
-use Rattle.subsume_pass.specs.Changing.{always, size, Falls, Cut, Drops}
+use Rattle.subsume_pass.specs.Changing.{size, Falls, Cut, Drops}
 use Rattle.subsume_pass.specs.Trying.{waits, different, StaysFree, GoesOut, GetsCut, Halts, Advances, Stops}
 use Rattle.subsume_pass.proofs.Clauses.{place}
 use Rattle.subsume_pass.proofs.Trying.{falls_none, falls_same}

@@ -9,14 +9,14 @@ use Rattle.firm_terms.specs.Subsuming.{IsFree, IsDone}
 use Rattle.rule_kernel.specs.Waiting.{Waiting}
 use Rattle.rule_kernel.specs.State.{State, IsPromised}
 use Rattle.rule_kernel.specs.Rules.{SameButMarks}
-use Rattle.pass_terms.specs.Ruled.{Ruled}
+use Rattle.pass_terms.specs.Ruled.{Ruled, always}
 use Rattle.pass_terms.specs.Ruled.Uses.{unmarked}
 use Rattle.pass_terms.specs.Ruled.Ruled.{none, more}
 use Rattle.pass_terms.proofs.Ruling.{ruled_trans}
 use Rattle.subsume_pass.specs.declared.turn.Turn.{Turn}
 use Rattle.subsume_pass.specs.declared.turn.Turn.TheVariants.{Done, Refuted, Full}
 use Rattle.subsume_pass.specs.Choosing.{AreCandidates}
-use Rattle.subsume_pass.specs.Changing.{always, size, Falls, Replaces, Cut, Drops}
+use Rattle.subsume_pass.specs.Changing.{size, Falls, Replaces, Cut, Drops}
 use Rattle.subsume_pass.specs.Trying.{waits, different, Keeps, Met, Tested, CameFull, Turned, Advances, Stops}
 use Rattle.subsume_pass.proofs.Clauses.{place}
 use Rattle.subsume_pass.proofs.Changing.{free_shrunk, free_slots, firm_none}

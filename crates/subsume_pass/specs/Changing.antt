@@ -9,10 +9,6 @@ use Rattle.rule_kernel.specs.State.{State}
 use Rattle.subsume_pass.specs.declared.change.Change.{Change}
 use Rattle.subsume_pass.specs.declared.change.Change.TheVariants.{Kept, Gone, Came}
 
--- no variable is free to be a witness
-abbrev pub always : ℕ → Bool
-always v = true
-
 -- the number of the firm clauses and the sum of their lengths together
 abbrev pub size : List (Option Stored) → ℕ
 size s = length (firm s) + lits_sum s

@@ -10,8 +10,8 @@
 ghost use Rattle.std.specs.Prelude.{◌≡◌, ◌≢◌, ◌<◌, ◌+◌, ◌^◌, ℕ, length, slice_index_or, true, IfOk, OnErr};
 ghost use Rattle.clause_store.specs.Stored.{slot, slot_lits, is_firm};
 ghost use Rattle.firm_terms.specs.Subsuming.{Resolves};
-ghost use Rattle.pass_terms.specs.Ruled.{Ruled};
-ghost use Rattle.subsume_pass.specs.Changing.{always, Cut, Changes};
+ghost use Rattle.pass_terms.specs.Ruled.{Ruled, always};
+ghost use Rattle.subsume_pass.specs.Changing.{Cut, Changes};
 
 use crate::compare::{Fit, compare};
 use rule_kernel::kernel::Kernel;

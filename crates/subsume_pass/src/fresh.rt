@@ -12,8 +12,7 @@
 //! compared again in the next run: a turn is no more than a comparison with each firm clause.
 ghost use Rattle.std.specs.Prelude.{◌≡◌, ◌≤◌, ◌<◌, length, true, IfOk, OnErr};
 ghost use Rattle.clause_store.specs.Stored.{slot, is_firm};
-ghost use Rattle.pass_terms.specs.Ruled.{Ruled};
-ghost use Rattle.subsume_pass.specs.Changing.{always};
+ghost use Rattle.pass_terms.specs.Ruled.{Ruled, always};
 ghost use Rattle.subsume_pass.specs.Trying.{Fated, Passed};
 
 use crate::candidates::sources;

@@ -22,31 +22,17 @@ ghost use Rattle.firm_terms.specs.Firm.{firm, has_empty};
 ghost use Rattle.rule_kernel.specs.Frozen.{is_frozen};
 ghost use Rattle.rule_kernel.specs.Rules.{SameButMarks};
 ghost use Rattle.rule_kernel.specs.declared.report.Ended.TheVariants.{Fixpoint};
-ghost use Rattle.pass_terms.specs.Ruled.{Ruled};
-ghost use Rattle.subsume_pass.specs.Changing.{always};
+ghost use Rattle.pass_terms.specs.Ruled.{Ruled, always};
 ghost use Rattle.subsume_pass.specs.Trying.{waits, Passed};
 ghost use Rattle.subsume_pass.specs.Pass.{IsIdle, Ends};
 
 use crate::fresh::turn_fresh;
 use crate::turn::{Turn, turn_due};
-use clause_store::store::Store;
+use pass_terms::refuted::is_refuted;
 use rule_kernel::frozen::Frozen;
 use rule_kernel::kernel::Kernel;
 use rule_kernel::report::{Ended, PassReport};
 use sat_model::memory::Memory;
-
-// Whether an empty clause is firm.
-fn is_refuted(store: &Store) -> bool
-    ensures { result ≡ has_empty (firm store.now) }
-{
-    for id in store.firm_ids() {
-        let count = store.get(*id).len();
-        if count == 0 {
-            return true;
-        }
-    }
-    false
-}
 
 // Whether no more waits than there are firm clauses.
 fn few_wait(kernel: &Kernel) -> bool

@@ -19,9 +19,8 @@ ghost use Rattle.std.specs.Prelude.{◌≡◌, ◌≢◌, ◌≤◌, ◌<◌, �
 ghost use Rattle.sat_terms.specs.Literal.{has};
 ghost use Rattle.clause_store.specs.Stored.{slot, slot_lits, is_firm};
 ghost use Rattle.firm_terms.specs.Firm.{firm, has_empty};
-ghost use Rattle.pass_terms.specs.Ruled.{Ruled};
+ghost use Rattle.pass_terms.specs.Ruled.{Ruled, always};
 ghost use Rattle.subsume_pass.specs.Choosing.{AreCandidates};
-ghost use Rattle.subsume_pass.specs.Changing.{always};
 ghost use Rattle.subsume_pass.specs.Trying.{Keeps, Met, Turned, Passed};
 
 use crate::candidates::candidates;

@@ -1,4 +1,5 @@
 -- What holds between the turns of the pass, and how its steps are counted.
+use Rattle.firm_terms.proofs.Dividing.{div_below}
 use Rattle.std.proofs.Common.{◌≡◌, ◌≢◌, ℕ, suc, zero, ◌+◌, ◌-◌, ◌*◌, ◌/◌, ◌%◌, ◌<◌, ◌≤◌, Bool, true, false, not, ◌&&◌, eqb, cond, List, [], ◌∷◌, length, ◌⊎◌, inl, inr, refl, sym, ap, ◌∙◌, subst, arith, Option, max, count_by}
 use Rattle.std.proofs.lemmas.Bool.{cases_Bool, cases_eq, cases_lt, false≢true, false_from_ne_true, or_cases, or_left, or_right, and_parts, and_from, eq-eqb, ne_eqb, eqb-true, not-true, not_from_false}
 use Rattle.std.proofs.lemmas.List.Sums.{sum_by-cons, count_by-le-length}
@@ -121,18 +122,6 @@ within_gone n g g' p p' a b h o pn k r =
 
 within_stop : (n g p a b : ℕ) → Within n g p a → 1 ≤ p → b < a + 400 → b < 400 * (n * (g + 1))
 within_stop n g p a b h o r = omega (arith, h, o, r)
-
--- the bound as a quotient
-div_below : (s d g : ℕ) → 0 < d → s < d * (g + 1) → s / d ≤ g
-div_below s d g pos h =
-    elim (cases_lt g (s / d)) [
-      | inl lt ↦
-          (let u : g + 1 ≤ s / d = omega arith in
-          let m : d * (g + 1) ≤ d * (s / d) = mul-le-mul_left d u in
-          let e : d * (s / d) + s % d ≡ s = omega arith in
-          absurd (omega (arith, m, e, h)))
-      | inr le ↦ le
-    ]
 
 some_variable : (s n g : ℕ) → s < 400 * (n * (g + 1)) → 0 < n
 some_variable s zero g h = absurd (omega arith)

@@ -1,7 +1,7 @@
 use Rattle.std.proofs.Common.{◌≡◌, ◌<◌, ◌≤◌, ◌+◌, eqb, not, ◌&&◌, true, false, length, refl, sym, ◌∙◌, arith}
 use Rattle.clause_store.specs.Stored.{slot, slot_lits, is_firm}
 use Rattle.firm_terms.specs.Subsuming.{IsFree}
-use Rattle.subsume_pass.specs.Changing.{always}
+use Rattle.pass_terms.specs.Ruled.{always}
 use Rattle.pass_terms.proofs.Ruling.{ruled_trans}
 use Rattle.subsume_pass.proofs.Seeking.{seeking_none, seeking_skip, seeking_kept, seek_free}
 use Rattle.subsume_pass.proofs.fresh.seek_change.Goals as goal

@@ -5,7 +5,7 @@ use Rattle.pass_terms.specs.Ruled.Ruled.{none}
 use Rattle.subsume_pass.specs.Choosing.{AreSources}
 use Rattle.subsume_pass.specs.Trying.{StaysFree, GoesOut, GetsCut, Halts}
 use Rattle.subsume_pass.proofs.Seeking.{passed_free, passed_went, passed_shrank, halted}
-use Rattle.subsume_pass.proofs.Setting.{refuted_at}
+use Rattle.firm_terms.proofs.Emptying.{refuted_at}
 use Rattle.subsume_pass.proofs.Trying.{last_read, ruled_settled}
 use Rattle.subsume_pass.proofs.fresh.turn_fresh.Goals as goal
 

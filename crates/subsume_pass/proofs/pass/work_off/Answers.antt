@@ -1,6 +1,6 @@
 use Rattle.std.proofs.Common.{◌≡◌, ◌≤◌, ℕ, List, length, sym, ap, ◌∙◌, arith}
 use Rattle.pass_terms.proofs.Ruling.{ruled_trans}
-use Rattle.subsume_pass.specs.Changing.{always}
+use Rattle.pass_terms.specs.Ruled.{always}
 use Rattle.subsume_pass.specs.Trying.{Advances, Stops}
 use Rattle.subsume_pass.proofs.Passing.{passing_none, passing_more, passing_full, fixpoint}
 use Rattle.subsume_pass.proofs.pass.work_off.Goals as goal

@@ -1,7 +1,7 @@
 use Rattle.std.proofs.Common.{◌≡◌, ◌<◌, ◌≤◌, eqb, not, ◌&&◌, true, false, ◌+◌, length, refl, sym, ◌∙◌, arith}
 use Rattle.clause_store.specs.Stored.{slot, is_firm}
 use Rattle.pass_terms.proofs.Ruling.{ruled_trans}
-use Rattle.subsume_pass.specs.Changing.{always}
+use Rattle.pass_terms.specs.Ruled.{always}
 use Rattle.subsume_pass.specs.Trying.{Met}
 use Rattle.subsume_pass.proofs.Trying.{testing_none, testing_skip, testing_met, other_of, keeps_both, still_firm, tested, came_full}
 use Rattle.subsume_pass.proofs.turn.meet_all.Goals as goal

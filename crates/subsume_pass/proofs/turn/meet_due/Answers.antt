@@ -1,7 +1,7 @@
 use Rattle.std.proofs.Common.{◌≡◌, ℕ, List, length, sym, ap, ◌∙◌}
 use Rattle.clause_store.specs.Stored.{slot, slot_lits}
 use Rattle.subsume_pass.specs.Changing.{Cut, Drops}
-use Rattle.subsume_pass.proofs.Setting.{refuted_at}
+use Rattle.firm_terms.proofs.Emptying.{refuted_at}
 use Rattle.subsume_pass.proofs.Trying.{Settles, keeps_gone, keeps_came, met_gone, met_came, free_of_next, ruled_settled}
 use Rattle.subsume_pass.proofs.turn.meet_due.Goals as goal
 

@@ -1,7 +1,7 @@
 use Rattle.std.proofs.Common.{◌≡◌, ℕ, List, sym}
 use Rattle.clause_store.specs.Stored.{slot, slot_lits}
 use Rattle.pass_terms.specs.Ruled.Ruled.{none}
-use Rattle.subsume_pass.proofs.Setting.{refuted_at}
+use Rattle.firm_terms.proofs.Emptying.{refuted_at}
 use Rattle.subsume_pass.proofs.turn.try_on_all.Goals as goal
 
 pub returns-then-count-eq0-clause-ruled : goal.returns-then-count-eq0-clause-ruled
