@@ -1,5 +1,5 @@
 -- What a firm clause does to another one.
-use Rattle.std.proofs.Common.{◌≡◌, ◌≢◌, ℕ, ◌+◌, ◌<◌, ◌≤◌, Bool, true, false, not, eqb, ◌&&◌, ◌||◌, List, length, get_or, Option, Some, None, inl, inr, refl, sym, ap, ◌∙◌, subst, arith}
+use Rattle.std.proofs.Common.{◌≡◌, ◌≢◌, ℕ, ◌<◌, Bool, true, not, eqb, ◌&&◌, List, length, get_or, Option, Some, None, inl, inr, refl, sym, ap, ◌∙◌, subst, arith}
 use Rattle.std.specs.List.{remove}
 use Rattle.std.proofs.lemmas.Bool.{false≢true, cases_eq}
 use Rattle.std.proofs.lemmas.List.Edits.{length-remove}
@@ -9,18 +9,18 @@ use Rattle.sat_terms.specs.Truth.{clause_true, lit_true, Implies}
 use Rattle.sat_terms.proofs.Literals.{var_of-neg}
 use Rattle.sat_terms.proofs.Truths.{clause_true-from, clause_true-some, lit_true-neg}
 use Rattle.clause_store.specs.Stored.{Stored, slot, slot_lits, is_firm, SlotTrue, FirmTrue, OthersTrue, Fills, Frees}
-use Rattle.firm_terms.specs.Firm.{firm, stands, firm_size, lits_sum}
+use Rattle.firm_terms.specs.Firm.{firm, stands, firm_size}
 use Rattle.firm_terms.specs.Subsuming.{IsWithin, Resolves, IsFree}
 use Rattle.firm_terms.proofs.Standing.{stands_from, mentions_lit, lit_of}
 use Rattle.firm_terms.proofs.Counting.{one_if, count_firm, count_filled, count_freed, count_two}
 use Rattle.firm_terms.proofs.Summing.{sum_filled, sum_freed, firm_size_is}
 use Rattle.rule_kernel.specs.State.{State}
 use Rattle.rule_kernel.specs.Rules.{firm_clause, AddsImplied, DropsImplied}
-use Rattle.pass_terms.specs.Ruled.{IsKnown, Uses, Ruled, always}
+use Rattle.pass_terms.specs.Ruled.{IsKnown, Ruled, always}
 use Rattle.pass_terms.specs.Ruled.Uses.{implied, dropped}
 use Rattle.pass_terms.specs.Ruled.Ruled.{none, more}
-use Rattle.subsume_pass.specs.declared.change.Change.TheVariants.{Kept, Gone, Came}
-use Rattle.subsume_pass.specs.Changing.{size, Falls, Cut, Drops, Changes}
+use Rattle.subsume_pass.specs.declared.change.Change.TheVariants.{Kept}
+use Rattle.subsume_pass.specs.Changing.{Cut, Drops, Changes}
 use Rattle.subsume_pass.proofs.Clauses.{has_removed, removed_has, removed_gone}
 use Rattle.subsume_pass.proofs.Comparing.{free_missing}
 

@@ -1,10 +1,10 @@
 -- Laws of the clauses with which a clause is to be compared.
-use Rattle.std.proofs.Common.{◌≡◌, ◌≢◌, ℕ, suc, zero, ◌+◌, ◌-◌, ◌<◌, ◌≤◌, Bool, true, false, eqb, ◌&&◌, ◌||◌, List, [], ◌∷◌, ◌++◌, length, get_or, take, Option, Some, None, inl, inr, ◌⊎◌, refl, sym, ap, ◌∙◌, subst, arith, bit_and, nat_lt}
+use Rattle.std.proofs.Common.{◌≡◌, ◌≢◌, ℕ, suc, zero, ◌+◌, ◌-◌, ◌<◌, ◌≤◌, true, false, eqb, List, [], ◌∷◌, ◌++◌, length, get_or, take, Option, inl, inr, refl, sym, ap, ◌∙◌, subst, arith, bit_and, nat_lt}
 use Rattle.std.proofs.lemmas.Bool.{ltb-true, false≢true, cases_Bool, cases_eq, cases_lt, and_parts, false_from_ne_true, eqb-true, eq-eqb, or_left}
 use Rattle.std.proofs.lemmas.List.{get_or_default, take_more, take_all}
 use Rattle.sat_terms.specs.Literal.{has, neg, var_of}
 use Rattle.sat_terms.specs.Normal.{IsNormal}
-use Rattle.sat_terms.proofs.Literals.{neg-neg, var_of-neg}
+use Rattle.sat_terms.proofs.Literals.{var_of-neg}
 use Rattle.sat_terms.proofs.Members.{has-append_left, has-append_right}
 use Rattle.clause_store.specs.Stored.{Stored, slot, slot_lits, is_firm}
 use Rattle.clause_store.specs.Listing.{times, HasEachOnce, holds_at}
@@ -12,8 +12,8 @@ use Rattle.clause_store.proofs.Counts.{gains_push, times_at}
 use Rattle.firm_terms.specs.Firm.{firm}
 use Rattle.firm_terms.specs.Signing.{IsSignature}
 use Rattle.firm_terms.proofs.Signing.{tells}
-use Rattle.firm_terms.proofs.Counting.{one_if, tally, tally_le, length_times, slot_within, count_tally, count_firm, place_of, listed}
-use Rattle.firm_terms.specs.Subsuming.{IsWithin, Resolves, IsFree}
+use Rattle.firm_terms.proofs.Counting.{one_if, tally_le, length_times, slot_within, count_tally, count_firm, place_of, listed}
+use Rattle.firm_terms.specs.Subsuming.{IsFree}
 use Rattle.subsume_pass.specs.Choosing.{AreFree, Collects, AreCandidates}
 use Rattle.subsume_pass.proofs.Clauses.{at_place, place, vars_rise, not_both}
 use Rattle.subsume_pass.proofs.Comparing.{free_missing}

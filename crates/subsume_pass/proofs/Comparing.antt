@@ -1,12 +1,12 @@
 -- What holds while two clauses are compared.
-use Rattle.std.proofs.Common.{◌≡◌, ◌≢◌, ℕ, suc, zero, ◌+◌, ◌<◌, ◌≤◌, Bool, true, false, eqb, ◌||◌, List, [], ◌∷◌, length, get_or, Option, Some, None, is_some, inl, inr, ◌⊎◌, refl, sym, ap, ◌∙◌, subst, arith}
+use Rattle.std.proofs.Common.{◌≡◌, ◌≢◌, ℕ, ◌+◌, ◌<◌, ◌≤◌, true, false, List, length, get_or, Option, Some, None, is_some, inl, inr, refl, sym, ap, ◌∙◌, subst, arith}
 use Rattle.std.proofs.lemmas.Bool.{false≢true, cases_eq, cases_lt, false_from_ne_true}
 use Rattle.std.proofs.lemmas.List.{get_or_default}
 use Rattle.sat_terms.specs.Literal.{has, neg, var_of}
 use Rattle.sat_terms.specs.Normal.{IsNormal}
-use Rattle.sat_terms.proofs.Literals.{neg-neg, neg-other, var_of-neg}
+use Rattle.sat_terms.proofs.Literals.{neg-neg, var_of-neg}
 use Rattle.firm_terms.specs.Subsuming.{IsWithin, Resolves, IsFree}
-use Rattle.subsume_pass.proofs.Clauses.{at_place, place, vars_rise, one_place, not_both}
+use Rattle.subsume_pass.proofs.Clauses.{at_place, place, vars_rise, not_both}
 
 -- a literal whose variable stands not in d
 pub free_missing : (c d : List ℕ) (l : ℕ) → has c l ≡ true → has d l ≡ false → has d (neg l) ≡ false → IsFree c d

@@ -1,15 +1,13 @@
 -- What holds between two turns.
 use Rattle.pass_terms.proofs.Ruling.{for_any, ruled_trans, ruled_weaken}
-use Rattle.std.proofs.Common.{◌≡◌, ◌≢◌, ℕ, suc, zero, ◌+◌, ◌-◌, ◌*◌, ◌/◌, ◌<◌, ◌≤◌, Bool, true, false, List, [], length, Option, inl, inr, refl, sym, ap, ◌∙◌, arith, leb}
+use Rattle.std.proofs.Common.{◌≡◌, ℕ, suc, zero, ◌+◌, ◌-◌, ◌*◌, ◌/◌, ◌<◌, ◌≤◌, Bool, true, List, [], length, inl, inr, sym, ap, ◌∙◌, arith, leb}
 use Rattle.std.proofs.Math.Nat.{mul-le-mul_left, mul-le-mul_right, mul-add, mul_assoc, mul-one, mul-div-le}
-use Rattle.std.proofs.lemmas.Bool.{leb-true, false≢true, cases_lt, cases_Bool}
+use Rattle.std.proofs.lemmas.Bool.{leb-true, false≢true, cases_lt}
 use Rattle.sat_terms.specs.Literal.{has}
-use Rattle.clause_store.specs.Stored.{Stored, slot, slot_lits, is_firm}
+use Rattle.clause_store.specs.Stored.{slot, is_firm}
 use Rattle.clause_store.specs.Listing.{HasEachOnce, firm_at}
 use Rattle.firm_terms.specs.Firm.{firm, lits_sum, has_empty}
-use Rattle.firm_terms.specs.Subsuming.{IsReduced}
 use Rattle.firm_terms.proofs.Counting.{count_ids}
-use Rattle.rule_kernel.specs.Waiting.{Waiting}
 use Rattle.rule_kernel.specs.State.{State, IsPromised}
 use Rattle.rule_kernel.specs.Rules.{SameButMarks}
 use Rattle.pass_terms.specs.Ruled.{Ruled, always}
@@ -17,7 +15,7 @@ use Rattle.pass_terms.specs.Ruled.Ruled.{none, more}
 use Rattle.pass_terms.specs.Ruled.Uses.{unmarked}
 use Rattle.subsume_pass.specs.Changing.{size, Falls}
 use Rattle.subsume_pass.specs.Trying.{waits, different, Advances, Stops}
-use Rattle.subsume_pass.specs.Pass.{IsIdle, IsFixpoint, ReachesLimit}
+use Rattle.subsume_pass.specs.Pass.{IsFixpoint, ReachesLimit}
 use Rattle.subsume_pass.proofs.Setting.{some_lits}
 use Rattle.subsume_pass.proofs.Trying.{falls_none, falls_both}
 use Rattle.subsume_pass.proofs.Waiting.{different_most, different_firm, nil_of}

@@ -1,10 +1,9 @@
 -- What holds while others are tried on a clause that is fresh, and where that ends.
-use Rattle.std.proofs.Common.{◌≡◌, ◌≢◌, ℕ, suc, zero, ◌+◌, ◌-◌, ◌*◌, ◌<◌, ◌≤◌, Bool, true, false, not, eqb, ◌&&◌, ◌||◌, List, [], ◌∷◌, length, get_or, Option, Some, None, inl, inr, refl, sym, ap, ◌∙◌, subst, arith}
-use Rattle.std.proofs.lemmas.Bool.{false≢true, cases_Bool, cases_eq, cases_lt, and_parts, or_cases, eqb-true, eq-eqb, ne_eqb, false_from_ne_true}
+use Rattle.std.proofs.Common.{◌≡◌, ◌≢◌, ℕ, ◌+◌, ◌<◌, ◌≤◌, Bool, true, false, not, eqb, ◌&&◌, ◌||◌, List, length, get_or, inl, inr, refl, sym, ap, ◌∙◌, subst, arith}
+use Rattle.std.proofs.lemmas.Bool.{false≢true, cases_Bool, cases_lt, and_parts, or_cases, eqb-true, eq-eqb, ne_eqb}
 use Rattle.std.proofs.lemmas.List.{get_or_default}
 use Rattle.sat_terms.specs.Literal.{has}
-use Rattle.clause_store.specs.Stored.{Stored, slot, slot_lits, is_firm}
-use Rattle.firm_terms.specs.Firm.{firm}
+use Rattle.clause_store.specs.Stored.{slot, slot_lits, is_firm}
 use Rattle.firm_terms.specs.Subsuming.{IsFree}
 use Rattle.rule_kernel.specs.State.{State}
 use Rattle.rule_kernel.specs.Rules.{SameButMarks}
@@ -12,10 +11,10 @@ use Rattle.pass_terms.specs.Ruled.{Ruled, always}
 use Rattle.pass_terms.specs.Ruled.Ruled.{none}
 use Rattle.pass_terms.proofs.Ruling.{ruled_trans}
 use Rattle.subsume_pass.specs.Choosing.{AreSources}
-use Rattle.subsume_pass.specs.Changing.{size, Falls, Cut, Drops}
-use Rattle.subsume_pass.specs.Trying.{waits, different, StaysFree, GoesOut, GetsCut, Halts, Advances, Stops}
+use Rattle.subsume_pass.specs.Changing.{size, Cut, Drops}
+use Rattle.subsume_pass.specs.Trying.{different, StaysFree, GoesOut, GetsCut, Halts, Advances, Stops}
 use Rattle.subsume_pass.proofs.Clauses.{place}
-use Rattle.subsume_pass.proofs.Trying.{falls_none, falls_same}
+use Rattle.subsume_pass.proofs.Trying.{falls_same}
 use Rattle.subsume_pass.proofs.Waiting.{different_le, different_more, different_less, different_swap, different_some}
 
 -- while the clauses of ids are compared with one

@@ -1,12 +1,11 @@
 -- What holds while a clause is tried on others, and where that ends.
-use Rattle.std.proofs.Common.{◌≡◌, ◌≢◌, ℕ, suc, zero, ◌+◌, ◌-◌, ◌*◌, ◌<◌, ◌≤◌, Bool, true, false, not, eqb, ◌&&◌, ◌||◌, List, [], ◌∷◌, length, get_or, Option, Some, None, inl, inr, ◌⊎◌, refl, sym, ap, ◌∙◌, subst, arith}
+use Rattle.std.proofs.Common.{◌≡◌, ◌≢◌, ℕ, suc, zero, ◌+◌, ◌<◌, ◌≤◌, Bool, true, false, not, eqb, ◌&&◌, ◌||◌, List, [], ◌∷◌, length, get_or, Option, None, inl, inr, ◌⊎◌, refl, sym, ap, ◌∙◌, subst, arith}
 use Rattle.std.proofs.lemmas.Bool.{false≢true, cases_Bool, cases_eq, cases_lt, and_parts, or_cases, eqb-true, eq-eqb, ne_eqb, false_from_ne_true}
 use Rattle.std.proofs.lemmas.List.{get_or_default}
 use Rattle.sat_terms.specs.Literal.{has}
 use Rattle.clause_store.specs.Stored.{Stored, slot, slot_lits, is_firm}
-use Rattle.firm_terms.specs.Firm.{firm, has_empty}
-use Rattle.firm_terms.specs.Subsuming.{IsFree, IsDone}
-use Rattle.rule_kernel.specs.Waiting.{Waiting}
+use Rattle.firm_terms.specs.Firm.{firm}
+use Rattle.firm_terms.specs.Subsuming.{IsFree}
 use Rattle.rule_kernel.specs.State.{State, IsPromised}
 use Rattle.rule_kernel.specs.Rules.{SameButMarks}
 use Rattle.pass_terms.specs.Ruled.{Ruled, always}
@@ -16,8 +15,8 @@ use Rattle.pass_terms.proofs.Ruling.{ruled_trans}
 use Rattle.subsume_pass.specs.declared.turn.Turn.{Turn}
 use Rattle.subsume_pass.specs.declared.turn.Turn.TheVariants.{Done, Refuted, Full}
 use Rattle.subsume_pass.specs.Choosing.{AreCandidates}
-use Rattle.subsume_pass.specs.Changing.{size, Falls, Replaces, Cut, Drops}
-use Rattle.subsume_pass.specs.Trying.{waits, different, Keeps, Met, Tested, CameFull, Turned, Advances, Stops}
+use Rattle.subsume_pass.specs.Changing.{size, Falls, Cut, Drops}
+use Rattle.subsume_pass.specs.Trying.{different, Keeps, Met, Tested, CameFull, Turned, Advances, Stops}
 use Rattle.subsume_pass.proofs.Clauses.{place}
 use Rattle.subsume_pass.proofs.Changing.{free_shrunk, free_slots, firm_none}
 use Rattle.subsume_pass.proofs.Waiting.{different_le, different_more, different_less, different_some, nil_where_none}

@@ -1,4 +1,4 @@
-use Rattle.std.proofs.Common.{◌≡◌, ℕ, List, true, false, length, eqb, bit_and, sym, ◌∙◌, arith}
+use Rattle.std.proofs.Common.{◌≡◌, false, eqb, bit_and, sym, ◌∙◌}
 use Rattle.clause_store.specs.Stored.{slot, slot_lits}
 use Rattle.subsume_pass.proofs.Collecting.{apart_signed, apart_longer}
 use Rattle.subsume_pass.proofs.candidates.are_apart.Goals as goal

@@ -1,4 +1,4 @@
-use Rattle.std.proofs.Common.{◌≡◌, List, ℕ, [], true, length, sym}
+use Rattle.std.proofs.Common.{◌≡◌, ℕ, [], true}
 use Rattle.sat_terms.specs.Literal.{has, neg}
 use Rattle.sat_terms.specs.Normal.{IsNormal}
 use Rattle.clause_store.specs.Stored.{slot, slot_lits}

@@ -1,4 +1,4 @@
-use Rattle.std.proofs.Common.{◌≡◌, ◌≤◌, ℕ, List, length, sym, arith}
+use Rattle.std.proofs.Common.{◌≡◌, ◌≤◌, length, arith}
 use Rattle.clause_store.specs.Stored.{slot, slot_lits}
 use Rattle.subsume_pass.proofs.Sourcing.{sources_of, sourcing_more}
 use Rattle.subsume_pass.proofs.candidates.sources.Goals as goal

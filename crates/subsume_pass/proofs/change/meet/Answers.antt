@@ -1,4 +1,4 @@
-use Rattle.std.proofs.Common.{◌≡◌, List, ℕ, refl, sym}
+use Rattle.std.proofs.Common.{◌≡◌}
 use Rattle.clause_store.specs.Stored.{slot, slot_lits}
 use Rattle.pass_terms.specs.Ruled.Ruled.{none}
 use Rattle.firm_terms.specs.Subsuming.{IsWithin, IsFree}

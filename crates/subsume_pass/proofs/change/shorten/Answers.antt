@@ -1,7 +1,5 @@
-use Rattle.std.proofs.Common.{◌≡◌, ◌<◌, List, ℕ, length, refl, sym, ap, ◌∙◌, arith}
+use Rattle.std.proofs.Common.{◌≡◌, List, ℕ, ap, ◌∙◌}
 use Rattle.std.specs.List.{remove}
-use Rattle.sat_terms.specs.Literal.{has}
-use Rattle.sat_terms.specs.Normal.{IsNormal}
 use Rattle.clause_store.specs.Stored.{slot, slot_lits}
 use Rattle.pass_terms.specs.Ruled.Ruled.{none}
 use Rattle.subsume_pass.proofs.Clauses.{normal_removed, removed_has}

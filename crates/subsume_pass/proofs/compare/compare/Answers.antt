@@ -1,7 +1,7 @@
-use Rattle.std.proofs.Common.{◌≡◌, ◌<◌, ◌≤◌, ℕ, length, sym, ◌∙◌, arith}
+use Rattle.std.proofs.Common.{◌≤◌, length, sym, ◌∙◌, arith}
 use Rattle.subsume_pass.specs.Comparing.{Looks}
 use Rattle.subsume_pass.specs.declared.compare.Look.TheVariants.{Same, Opposite, Neither}
-use Rattle.subsume_pass.proofs.Comparing.{Comparing, comparing_same, flip_first, flip_second, free_neither, all_within, all_but_one}
+use Rattle.subsume_pass.proofs.Comparing.{comparing_same, flip_first, flip_second, free_neither, all_within, all_but_one}
 use Rattle.subsume_pass.proofs.compare.compare.Goals as goal
 use Rattle.subsume_pass.proofs.compare.compare.Goals.{in-Same, in-Opposite+else-is_some}
 

@@ -1,4 +1,4 @@
-use Rattle.std.proofs.Common.{◌≡◌, ◌<◌, ◌≤◌, ◌+◌, eqb, not, ◌&&◌, true, false, length, refl, sym, ◌∙◌, arith}
+use Rattle.std.proofs.Common.{◌≡◌, ◌≤◌, eqb, not, ◌&&◌, false, length, sym, ◌∙◌, arith}
 use Rattle.clause_store.specs.Stored.{slot, slot_lits, is_firm}
 use Rattle.firm_terms.specs.Subsuming.{IsFree}
 use Rattle.pass_terms.specs.Ruled.{always}

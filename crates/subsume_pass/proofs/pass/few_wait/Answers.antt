@@ -1,4 +1,3 @@
-use Rattle.std.proofs.Common.{◌≡◌, ◌≤◌, ◌+◌, ◌-◌, Bool, ℕ, List, true, length, leb, sym, arith}
 use Rattle.clause_store.specs.Listing.{HasEachOnce, firm_at}
 use Rattle.subsume_pass.proofs.Passing.{few_by_length}
 use Rattle.subsume_pass.proofs.pass.few_wait.Goals as goal

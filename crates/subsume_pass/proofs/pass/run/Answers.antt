@@ -1,4 +1,4 @@
-use Rattle.std.proofs.Common.{◌≡◌, ◌≤◌, ℕ, List, length, sym, ap, ◌∙◌, arith}
+use Rattle.std.proofs.Common.{◌≤◌, length, ap, arith}
 use Rattle.rule_kernel.specs.Frozen.{is_frozen}
 use Rattle.pass_terms.specs.Ruled.Ruled.{none}
 use Rattle.subsume_pass.proofs.Passing.{fixpoint, ruled_marked}

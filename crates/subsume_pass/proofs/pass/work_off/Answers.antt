@@ -1,4 +1,4 @@
-use Rattle.std.proofs.Common.{◌≡◌, ◌≤◌, ℕ, List, length, sym, ap, ◌∙◌, arith}
+use Rattle.std.proofs.Common.{◌≤◌, length, ap, arith}
 use Rattle.pass_terms.proofs.Ruling.{ruled_trans}
 use Rattle.pass_terms.specs.Ruled.{always}
 use Rattle.subsume_pass.specs.Trying.{Advances, Stops}

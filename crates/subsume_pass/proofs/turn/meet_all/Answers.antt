@@ -1,4 +1,4 @@
-use Rattle.std.proofs.Common.{◌≡◌, ◌<◌, ◌≤◌, eqb, not, ◌&&◌, true, false, ◌+◌, length, refl, sym, ◌∙◌, arith}
+use Rattle.std.proofs.Common.{◌≡◌, ◌≤◌, eqb, not, ◌&&◌, true, false, length, sym, ◌∙◌, arith}
 use Rattle.clause_store.specs.Stored.{slot, is_firm}
 use Rattle.pass_terms.proofs.Ruling.{ruled_trans}
 use Rattle.pass_terms.specs.Ruled.{always}

@@ -1,4 +1,4 @@
-use Rattle.std.proofs.Common.{◌≡◌, ℕ, List, length, sym, ap, ◌∙◌}
+use Rattle.std.proofs.Common.{◌≡◌}
 use Rattle.clause_store.specs.Stored.{slot, slot_lits}
 use Rattle.subsume_pass.specs.Changing.{Cut, Drops}
 use Rattle.firm_terms.proofs.Emptying.{refuted_at}

@@ -1,4 +1,4 @@
-use Rattle.std.proofs.Common.{◌≡◌, ◌<◌, ◌-◌, ℕ, List, true, length, get_or, sym, ap, ◌∙◌, arith}
+use Rattle.std.proofs.Common.{◌≡◌, ◌<◌, ◌-◌, true, length, ap, arith}
 use Rattle.sat_terms.specs.Literal.{has}
 use Rattle.firm_terms.specs.Firm.{firm}
 use Rattle.subsume_pass.specs.Trying.{Tested, CameFull}
