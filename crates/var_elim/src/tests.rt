@@ -627,34 +627,50 @@ fn nth(number: u32) -> Result<Lit, Fail> {
     Ok(Var::new(number).ok_or("no variable")?.positive())
 }
 
-// Adds the clause of a literal and the positive literals of a range of variables, and freezes these.
-fn add_long(
+// A literal and the positive literals of a range of variables.
+fn long_clause(alloc: Global, lit: Lit, low: u32, high: u32) -> Result<Vec<Lit>, Fail> {
+    let mut lits = Vec::new(alloc);
+    lits.push(lit)?;
+    for number in low..high {
+        lits.push(nth(number)?)?;
+    }
+    Ok(lits)
+}
+
+// Adds the clause of a literal and the positive literals of a range of variables.
+fn add_long(alloc: Global, kernel: &mut Kernel, lit: Lit, low: u32, high: u32) -> Result<(), Fail> {
+    let lits = long_clause(alloc, lit, low, high)?;
+    add(alloc, kernel, lits.as_slice())
+}
+
+// Freezes the variables of a range.
+fn freeze_range(frozen: &mut Frozen, low: u32, high: u32) -> Result<(), Fail> {
+    for number in low..high {
+        frozen.freeze(nth(number)?.var())?;
+    }
+    Ok(())
+}
+
+// Runs the pass where the only resolvent has so many literals, and all its variables are frozen.
+fn run_long(
     alloc: Global,
     kernel: &mut Kernel,
     frozen: &mut Frozen,
-    lit: Lit,
-    low: u32,
-    high: u32,
-) -> Result<(), Fail> {
-    let mut all = Vec::new(alloc);
-    all.push(lit)?;
-    for number in low..high {
-        let other = nth(number)?;
-        all.push(other)?;
-        frozen.freeze(other.var())?;
-    }
-    add(alloc, kernel, all.as_slice())
+    length: u32,
+) -> Result<u64, Fail> {
+    let first = nth(1)?;
+    let end = length.saturating_add(2);
+    freeze_range(frozen, 2, end)?;
+    add_long(alloc, kernel, first, 2, 42)?;
+    add_long(alloc, kernel, first.neg(), 32, end)?;
+    Ok(run(kernel, frozen, 1000)?.removed)
 }
 
-// How many clauses the pass takes out where the only resolvent has so many literals.
+// How many clauses the pass takes out there.
 fn removed_at(alloc: Global, length: u32) -> Result<u64, Fail> {
     let mut kernel = Kernel::new(alloc);
     let mut frozen = Frozen::new(alloc);
-    let first = nth(1)?;
-    let end = length.saturating_add(2);
-    add_long(alloc, &mut kernel, &mut frozen, first, 2, 42)?;
-    add_long(alloc, &mut kernel, &mut frozen, first.neg(), 32, end)?;
-    Ok(run(&mut kernel, &frozen, 1000)?.removed)
+    run_long(alloc, &mut kernel, &mut frozen, length)
 }
 
 // A resolvent of 100 literals may come, and one of 101 may not.
@@ -681,14 +697,20 @@ fn waits_for_thaw(kernel: &mut Kernel, frozen: &mut Frozen) -> Result<bool, Fail
     )
 }
 
+// The same of the clauses of two variables that are tied by a third.
+fn thaws(alloc: Global, kernel: &mut Kernel, frozen: &mut Frozen) -> Result<bool, Fail> {
+    add_numbers(alloc, kernel, &[1, 2])?;
+    add_numbers(alloc, kernel, &[-1, 3])?;
+    freeze(frozen, &[1, 2, 3])?;
+    waits_for_thaw(kernel, frozen)
+}
+
 // A frozen variable is not tested, and is tested once it is frozen no longer; what was tested is not tested again.
 #[test]
 fn later_runs(rt: HostRuntime) -> Result<(), Fail> {
     let mut kernel = Kernel::new(rt.alloc());
     let mut frozen = Frozen::new(rt.alloc());
-    add_numbers(rt.alloc(), &mut kernel, &[1, 2])?;
-    add_numbers(rt.alloc(), &mut kernel, &[-1, 3])?;
-    freeze(&mut frozen, &[1, 2, 3])?;
-    assert!(rt; waits_for_thaw(&mut kernel, &mut frozen)?);
+    let waits = thaws(rt.alloc(), &mut kernel, &mut frozen)?;
+    assert!(rt; waits);
     Ok(())
 }
