@@ -111,23 +111,26 @@ fn restore_each(alloc: Global, kernel: &mut Kernel) -> Result<u64, Memory> {
     Ok(restored)
 }
 
+// Does what a line asks for over a kernel with parked clauses, and gives how many entries were restored.
+fn restored_by(alloc: Global, kernel: &mut Kernel, request: Request) -> Result<u64, Memory> {
+    match request.run {
+        Run::Park => Ok(0),
+        Run::Clean => add_each(alloc, kernel, request.count),
+        Run::Half => {
+            let lits = every_second(alloc, request.count)?;
+            restore_for(alloc, kernel, lits.as_slice())
+        }
+        Run::Single => restore_each(alloc, kernel),
+    }
+}
+
 // Does what a line asks for.
 pub(crate) fn answer(alloc: Global, request: Request) -> Result<Report, Memory> {
     let mut kernel = parked(alloc, request.count)?;
-    let restored = match request.run {
-        Run::Park => 0,
-        Run::Clean => add_each(alloc, &mut kernel, request.count)?,
-        Run::Half => restore_for(
-            alloc,
-            &mut kernel,
-            every_second(alloc, request.count)?.as_slice(),
-        )?,
-        Run::Single => restore_each(alloc, &mut kernel)?,
-    };
-    let firm = kernel.store().firm_ids().len();
+    let restored = restored_by(alloc, &mut kernel, request)?;
     Ok(Report {
         restored,
-        firm,
+        firm: kernel.store().firm_ids().len(),
         stacked: kernel.stack().len(),
     })
 }

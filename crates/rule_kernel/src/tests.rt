@@ -144,17 +144,19 @@ fn settle_all(kernel: &mut Kernel) {
     }
 }
 
-// How many clauses are firm, and how many stand on the stack; how many variables are marked, and how many literals; how many clauses are
-// due, and how many fresh.
-fn figures(kernel: &Kernel) -> [usize; 6] {
+// How many clauses are firm, and how many stand on the stack; how many variables are marked, and how many literals.
+fn figures(kernel: &Kernel) -> [usize; 4] {
     [
         kernel.store().firm_ids().len(),
         kernel.stack().len(),
         kernel.marked_vars().len(),
         kernel.marked_lits().len(),
-        kernel.due().len(),
-        kernel.fresh().len(),
     ]
+}
+
+// How many clauses are due, and how many fresh.
+fn waiting(kernel: &Kernel) -> [usize; 2] {
+    [kernel.due().len(), kernel.fresh().len()]
 }
 
 // Whether the store has one firm clause, of this id and these literals.
@@ -163,25 +165,55 @@ fn has_only(kernel: &Kernel, id: ClauseId, lits: &[Lit]) -> bool {
     ids.len() == 1 && ids[0] == id && kernel.store().is_live(id) && kernel.store().get(id) == lits
 }
 
-#[test]
-fn parked_clauses_extend_models(rt: HostRuntime) -> Result<(), Fail> {
+// Parks three clauses that each follow from the one before.
+fn park_three(kernel: &mut Kernel) -> Result<(), Fail>
+    requires empty { (id : ℕ) → slot kernel.old.store id ≡ None }
+    requires within { StackWithin 4 kernel.old.stack }
+    ensures empty { OnOk result ((id : ℕ) → slot kernel.new.store id ≡ None) }
+    ensures within { OnOk result (StackWithin 4 kernel.new.stack) }
+{
     let one = Lit::new(1).ok_or("no literal")?;
     let two = Lit::new(2).ok_or("no literal")?;
     let three = Lit::new(3).ok_or("no literal")?;
     let four = Lit::new(4).ok_or("no literal")?;
-    let mut kernel = Kernel::new(rt.alloc());
-    park_pair(&mut kernel, one, two)?;
-    park_pair(&mut kernel, two.neg(), three)?;
-    park_pair(&mut kernel, three.neg(), four)?;
+    park_pair(kernel, one, two)?;
+    park_pair(kernel, two.neg(), three)?;
+    park_pair(kernel, three.neg(), four)?;
+    Ok(())
+}
+
+// What the stack makes of the model in which nothing is true.
+fn extended(kernel: &Kernel) -> [bool; 4]
+    requires empty { (id : ℕ) → slot kernel.now.store id ≡ None }
+    requires within { StackWithin 4 kernel.now.stack }
+{
     let mut model = [false; 4];
     kernel.extend(&mut model);
-    assert!(rt; model == [true, false, false, false]);
-    assert!(rt; kernel.store().firm_ids().is_empty());
-    assert!(rt; kernel.removals() == 3 && kernel.restores() == 0);
-    let id = restore_newest(&mut kernel)?;
-    assert!(rt; kernel.stack().len() == 2);
-    assert!(rt; has_only(&kernel, id, &[three.neg(), four]));
-    assert!(rt; kernel.removals() == 3 && kernel.restores() == 1);
+    model
+}
+
+// How often clauses were removed, and how often restored.
+fn counts(kernel: &Kernel) -> [u64; 2] {
+    [kernel.removals(), kernel.restores()]
+}
+
+// Restores the newest entry, and looks whether it is the clause of two literals and the only firm one.
+fn restores_pair(kernel: &mut Kernel) -> Result<bool, Fail> {
+    let three = Lit::new(3).ok_or("no literal")?;
+    let four = Lit::new(4).ok_or("no literal")?;
+    let id = restore_newest(kernel)?;
+    Ok(has_only(kernel, id, &[three.neg(), four]))
+}
+
+#[test]
+fn parked_clauses_extend_models(rt: HostRuntime) -> Result<(), Fail> {
+    let mut kernel = Kernel::new(rt.alloc());
+    park_three(&mut kernel)?;
+    assert_eq!(rt; extended(&kernel), [true, false, false, false]);
+    assert_eq!(rt; counts(&kernel), [3, 0]);
+    let restored = restores_pair(&mut kernel)?;
+    assert!(rt; restored && kernel.stack().len() == 2);
+    assert_eq!(rt; counts(&kernel), [3, 1]);
     Ok(())
 }
 
@@ -195,24 +227,32 @@ fn clauses_come_and_go(rt: HostRuntime) -> Result<(), Fail> {
     assert!(rt; has_only(&kernel, first, &[one]));
     assert!(rt; kernel.store().redundant_ids().is_empty());
     // The learned clause marks nothing, and the one that was dropped its variables and the negations of its literals.
-    assert_eq!(rt; figures(&kernel), [1, 0, 2, 4, 1, 1]);
+    assert_eq!(rt; figures(&kernel), [1, 0, 2, 4]);
     Ok(())
+}
+
+// Parks many long clauses, takes all marks off, and restores every second clause; gives the figures after each.
+fn tall_figures(kernel: &mut Kernel, alloc: Global) -> Result<[[usize; 4]; 3], Fail>
+    requires { kernel.old.store ≡ [] }
+{
+    park_rows(kernel, alloc)?;
+    let parked = figures(kernel);
+    settle_all(kernel);
+    let settled = figures(kernel);
+    restore_every_second(kernel)?;
+    kernel.compact()?;
+    Ok([parked, settled, figures(kernel)])
 }
 
 #[test]
 fn tall_stacks_of_long_clauses(rt: HostRuntime) -> Result<(), Fail> {
-    let mut kernel = Kernel::new(rt.alloc());
-    park_rows(&mut kernel, rt.alloc())?;
     // Each clause came and went, so both literals of each variable are marked.
-    assert_eq!(rt; figures(&kernel), [0, 300, 604, 1208, 0, 0]);
-    settle_all(&mut kernel);
-    assert_eq!(rt; figures(&kernel), [0, 300, 0, 0, 0, 0]);
-    restore_every_second(&mut kernel)?;
-    kernel.compact()?;
-    assert_eq!(rt; figures(&kernel), [150, 150, 602, 602, 150, 150]);
-    kernel.make_all_due();
-    assert_eq!(rt; figures(&kernel), [150, 150, 602, 602, 150, 0]);
-    assert_eq!(rt; [kernel.removals(), kernel.restores()], [300, 150]);
+    let mut kernel = Kernel::new(rt.alloc());
+    let rows = tall_figures(&mut kernel, rt.alloc())?;
+    assert_eq!(rt; rows[0], [0, 300, 604, 1208]);
+    assert_eq!(rt; rows[1], [0, 300, 0, 0]);
+    assert_eq!(rt; rows[2], [150, 150, 602, 602]);
+    assert_eq!(rt; counts(&kernel), [300, 150]);
     Ok(())
 }
 
@@ -223,5 +263,17 @@ fn variables_are_frozen(rt: HostRuntime) -> Result<(), Fail> {
     let mut frozen = Frozen::new(rt.alloc());
     frozen.freeze(three)?;
     assert!(rt; frozen.has(three) && !frozen.has(four));
+    Ok(())
+}
+
+#[test]
+fn what_came_waits(rt: HostRuntime) -> Result<(), Fail> {
+    // Of many rows that come and are parked, those that are restored wait, in both ways, until all are due.
+    let mut kernel = Kernel::new(rt.alloc());
+    park_rows(&mut kernel, rt.alloc())?;
+    restore_every_second(&mut kernel)?;
+    assert_eq!(rt; waiting(&kernel), [150, 150]);
+    kernel.make_all_due();
+    assert_eq!(rt; waiting(&kernel), [150, 0]);
     Ok(())
 }
