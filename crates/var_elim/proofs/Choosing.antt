@@ -1,7 +1,7 @@
 -- Which variable is tested next.
-use Rattle.std.proofs.Common.{◌≡◌, ◌≢◌, ℕ, suc, zero, ◌+◌, ◌<◌, ◌≤◌, Bool, true, false, not, ◌||◌, ◌&&◌, eqb, cond, List, [], ◌∷◌, ◌++◌, length, get_or, take, ◌⊎◌, inl, inr, refl, sym, ap, ◌∙◌, subst, arith, Option, nat_lt}
-use Rattle.std.proofs.lemmas.Bool.{cases_Bool, cases_eq, cases_lt, false≢true, or_cases, or_left, or_right, and_parts, and_from, and_left, and_right, eq-eqb, ne_eqb, eqb-true, not_from_false, lt-leb, le-leb}
-use Rattle.sat_terms.specs.Literal.{has, neg, var_of, pos_lit, neg_lit}
+use Rattle.std.proofs.Common.{◌≡◌, ◌≢◌, ℕ, ◌+◌, ◌<◌, ◌≤◌, Bool, true, false, not, ◌||◌, ◌&&◌, eqb, cond, List, [], ◌∷◌, ◌++◌, length, get_or, take, ◌⊎◌, inl, inr, refl, sym, ap, ◌∙◌, subst, arith, Option, nat_lt}
+use Rattle.std.proofs.lemmas.Bool.{cases_Bool, cases_eq, cases_lt, false≢true, or_cases, or_left, or_right, and_parts, and_from, and_right, eq-eqb, ne_eqb, eqb-true, not_from_false, lt-leb, le-leb}
+use Rattle.sat_terms.specs.Literal.{has, var_of, pos_lit, neg_lit}
 use Rattle.sat_terms.proofs.Literals.{var_of-pos_lit, var_of-neg_lit, neg-pos_lit}
 use Rattle.sat_terms.proofs.Members.{has_item, has_at, has_more, has-append_left, has-append_right, has-append_cases, same_tests}
 use Rattle.clause_store.specs.Stored.{Stored, slot, slot_lits}

@@ -1,19 +1,19 @@
 -- What the elimination of a variable keeps, rule by rule.
-use Rattle.std.proofs.Common.{◌≡◌, ◌≢◌, ℕ, ◌+◌, ◌<◌, Bool, true, false, not, eqb, List, [], ◌∷◌, ◌++◌, length, get_or, take, ◌⊎◌, inl, inr, refl, sym, ap, ◌∙◌, subst, arith, Option, Some, None, cond, Result, Ok, Err, OnOk}
-use Rattle.std.proofs.lemmas.Bool.{cases_eq, false≢true, false_from_ne_true, or_left, eq-eqb, ne_eqb}
+use Rattle.std.proofs.Common.{◌≡◌, ℕ, ◌+◌, ◌<◌, true, false, not, List, [], ◌∷◌, ◌++◌, length, get_or, take, inl, inr, refl, sym, ap, ◌∙◌, subst, arith, Option, cond, Result, Ok, Err, OnOk}
+use Rattle.std.proofs.lemmas.Bool.{false≢true, false_from_ne_true, or_left, eq-eqb}
 use Rattle.std.proofs.lemmas.List.{take_more, get_or_default}
 use Rattle.sat_terms.specs.Literal.{has, neg, var_of}
 use Rattle.sat_terms.specs.Normal.{IsNormal}
 use Rattle.sat_terms.specs.Truth.{Implies}
-use Rattle.sat_terms.proofs.Literals.{same_var, neg-neg, var_of-neg}
-use Rattle.clause_store.specs.Stored.{Stored, slot, slot_lits, is_firm, FirmTrue, Fills, Frees}
+use Rattle.sat_terms.proofs.Literals.{same_var, var_of-neg}
+use Rattle.clause_store.specs.Stored.{Stored, slot, slot_lits, is_firm, FirmTrue}
 use Rattle.clause_store.specs.FirmCount.{firm_passes, firm_count}
 use Rattle.clause_store.proofs.FirmCounts.{removing_counts}
 use Rattle.firm_terms.specs.Firm.{mentions, firm, stands, Holds, NoneCame}
 use Rattle.firm_terms.proofs.Standing.{stands_of, stands_from, mentions_lit, lit_of}
 use Rattle.firm_terms.proofs.Resolving.{resolvent_of}
 use Rattle.rule_kernel.specs.State.{State}
-use Rattle.rule_kernel.specs.Rules.{firm_clause, AddsImplied, Parks}
+use Rattle.rule_kernel.specs.Rules.{AddsImplied, Parks}
 use Rattle.pass_terms.specs.Ruled.{IsKnown, Ruled}
 use Rattle.pass_terms.specs.Ruled.Uses.{implied, parked}
 use Rattle.pass_terms.specs.Ruled.Ruled.{none, more}

@@ -1,20 +1,20 @@
 -- What a trial of a variable shows, once its pairs were looked at.
-use Rattle.std.proofs.Common.{◌≡◌, ◌≢◌, ℕ, suc, zero, ◌+◌, ◌*◌, ◌<◌, ◌≤◌, Bool, true, false, cond, not, ◌&&◌, eqb, List, [], ◌∷◌, ◌++◌, map, length, get_or, ◌⊎◌, inl, inr, refl, sym, ap, ◌∙◌, subst, arith, Option, Result, Ok, Err, Some, None, IfOk, IfSome, IfNone, nat_le, nat_lt}
+use Rattle.std.proofs.Common.{◌≡◌, ℕ, suc, zero, ◌+◌, ◌*◌, ◌<◌, ◌≤◌, Bool, true, false, cond, not, ◌&&◌, eqb, List, [], ◌∷◌, ◌++◌, map, length, ◌⊎◌, inl, inr, refl, sym, ap, ◌∙◌, subst, arith, Option, nat_le, nat_lt}
 use Rattle.std.specs.List.{list_any, list_all, filter}
 use Rattle.std.proofs.lemmas.Bool.{cases_Bool, false≢true, false_from_ne_true, or_cases, or_left, or_right, and_parts, and_from, and_left, and_right, eq-eqb, eqb-true, le-leb, lt-leb, leb-true}
-use Rattle.std.proofs.lemmas.List.{length-append, length-map}
+use Rattle.std.proofs.lemmas.List.{length-map}
 use Rattle.sat_terms.specs.Literal.{has, neg}
 use Rattle.sat_terms.specs.Normal.{IsNormal}
 use Rattle.normal_form.specs.Forms.{IsFormOf}
-use Rattle.clause_store.specs.Stored.{Stored, slot, slot_lits, is_firm}
+use Rattle.clause_store.specs.Stored.{Stored}
 use Rattle.clause_store.specs.Listing.{HasEachOnce, holds_at}
 use Rattle.firm_terms.specs.Firm.{firm, Holds}
 use Rattle.firm_terms.specs.Resolving.{holding, resolvent, is_tautology, distinct, row, resolvents, is_unit, is_short, could_be, candidate_of}
-use Rattle.firm_terms.proofs.Resolving.{any_some, any_from, resolvent_of, normal_apart}
+use Rattle.firm_terms.proofs.Resolving.{any_some, resolvent_of, normal_apart}
 use Rattle.var_elim.specs.declared.test.Work.{Work}
 use Rattle.var_elim.specs.declared.test.Outcome.{Outcome}
 use Rattle.var_elim.specs.declared.test.Outcome.TheVariants.{Fits, Fails, Spent}
-use Rattle.var_elim.specs.Testing.{lits_at, AllFirm, AllHold, AreForms, TooMuch, Passed, Failed, RanOut, Looked, candidate_at, clause_at, Resolvents, Judged}
+use Rattle.var_elim.specs.Testing.{lits_at, AreForms, TooMuch, Looked, candidate_at, clause_at, Resolvents, Judged}
 use Rattle.var_elim.proofs.Ordering.{candidate_same}
 use Rattle.var_elim.proofs.Occurring.{occ_sums, all_hold, hold_all}
 use Rattle.var_elim.proofs.Forms.{distinct_same}

@@ -1,11 +1,10 @@
 -- The clauses that hold a literal, as a store lists their ids.
-use Rattle.std.proofs.Common.{◌≡◌, ◌≢◌, ℕ, suc, zero, ◌+◌, ◌*◌, ◌<◌, ◌≤◌, Bool, true, false, cond, eqb, ◌&&◌, List, [], ◌∷◌, map, length, get_or, Option, Some, None, inl, inr, refl, sym, ap, ◌∙◌, subst, arith}
+use Rattle.std.proofs.Common.{◌≡◌, ℕ, ◌+◌, ◌*◌, Bool, true, false, cond, ◌&&◌, List, [], ◌∷◌, map, length, get_or, Option, Some, None, inl, inr, refl, sym, ◌∙◌, subst, arith}
 use Rattle.std.specs.List.{sum_by}
-use Rattle.std.proofs.lemmas.Bool.{cases_Bool, cases_eq, false≢true, and_parts, and_from, eq-eqb, ne_eqb}
-use Rattle.std.proofs.lemmas.List.{get_or_default}
+use Rattle.std.proofs.lemmas.Bool.{cases_Bool, and_parts, and_from}
 use Rattle.std.proofs.lemmas.List.Sums.{sum_by-cons}
 use Rattle.sat_terms.specs.Literal.{has}
-use Rattle.sat_terms.proofs.Members.{has_place, has_item}
+use Rattle.sat_terms.proofs.Members.{has_place}
 use Rattle.clause_store.specs.Stored.{Stored, keeps_firm, slot, slot_lits, is_firm}
 use Rattle.clause_store.specs.Listing.{times, HasEachOnce, holds_at}
 use Rattle.firm_terms.specs.Firm.{firm, Holds}

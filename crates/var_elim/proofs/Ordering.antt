@@ -1,11 +1,11 @@
 -- Whether a variable is a candidate does not depend on the order in which its clauses are listed.
-use Rattle.std.proofs.Common.{◌≡◌, ℕ, suc, zero, ◌+◌, ◌*◌, ◌<◌, ◌≤◌, Bool, true, false, cond, not, ◌||◌, ◌&&◌, List, [], ◌∷◌, ◌++◌, map, length, refl, sym, ap, ◌∙◌, subst, arith, inl, inr, ◌⊎◌, nat_le, nat_lt}
+use Rattle.std.proofs.Common.{◌≡◌, ℕ, ◌+◌, Bool, true, false, cond, not, ◌||◌, List, [], ◌∷◌, length, refl, sym, ap, ◌∙◌, arith, inl, inr, nat_lt}
 use Rattle.std.specs.List.{list_any, list_all, filter, sum_by}
 use Rattle.std.proofs.lemmas.Bool.{cases_Bool}
 use Rattle.std.proofs.lemmas.List.{length-append, length-map}
 use Rattle.std.proofs.lemmas.List.Folds.{list_all-append}
 use Rattle.std.proofs.lemmas.List.Sums.{sum_by-cons, length-filter}
-use Rattle.firm_terms.specs.Resolving.{resolvent, is_tautology, distinct, row, resolvents, is_unit, is_short, could_be, candidate_of}
+use Rattle.firm_terms.specs.Resolving.{resolvent, is_tautology, distinct, row, resolvents, is_unit, is_short, candidate_of}
 
 -- two lists have the same clauses as often: every sum over them is the same
 abbrev pub SameSums : List (List ℕ) → List (List ℕ) → Type 0

@@ -1,16 +1,16 @@
 -- Why the clauses of an eliminated variable may be parked.
-use Rattle.std.proofs.Common.{◌≡◌, ◌≢◌, ℕ, suc, zero, ◌+◌, ◌<◌, ◌≤◌, Bool, true, false, List, [], ◌∷◌, ◌++◌, length, ◌⊎◌, inl, inr, refl, sym, ap, ◌∙◌, subst, arith, Option, Some, None}
-use Rattle.std.proofs.lemmas.Bool.{cases_Bool, cases_eq, false≢true}
+use Rattle.std.proofs.Common.{◌≡◌, ◌≢◌, ℕ, suc, zero, ◌<◌, true, false, List, [], ◌∷◌, ◌++◌, length, inl, inr, refl, sym, ap, ◌∙◌, subst, arith, Option, Some, None}
+use Rattle.std.proofs.lemmas.Bool.{cases_eq, false≢true}
 use Rattle.std.proofs.lemmas.List.{length-append}
 use Rattle.sat_terms.specs.Literal.{has, neg}
-use Rattle.sat_terms.specs.Truth.{Assignment, clause_true, lit_true, Implies}
+use Rattle.sat_terms.specs.Truth.{Assignment, clause_true, Implies}
 use Rattle.sat_terms.proofs.Literals.{neg-neg}
 use Rattle.sat_terms.proofs.Truths.{clause_true-from, clause_true-some}
 use Rattle.redundancy.specs.Redundancy.{Witnesses}
 use Rattle.normal_form.specs.Forms.{SameLits}
 use Rattle.clause_store.specs.Stored.{Stored, slot, slot_lits, is_firm, FirmTrue, OthersTrue, Fills, Frees}
 use Rattle.firm_terms.specs.Firm.{Holds, NoneCame}
-use Rattle.firm_terms.specs.Resolving.{resolvent, is_tautology}
+use Rattle.firm_terms.specs.Resolving.{resolvent}
 use Rattle.firm_terms.proofs.Resolving.{spares_implied, spares_tautology, witnessed, resolvent_implied}
 use Rattle.rule_kernel.specs.Rules.{firm_clause}
 use Rattle.var_elim.specs.Testing.{lits_at, clause_at, Resolvents}

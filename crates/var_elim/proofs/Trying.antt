@@ -1,13 +1,13 @@
 -- What becomes of pairs of clauses, one part after another.
-use Rattle.std.proofs.Common.{◌≡◌, ℕ, suc, zero, ◌+◌, ◌*◌, ◌<◌, ◌≤◌, Bool, true, false, cond, not, ◌&&◌, List, [], ◌∷◌, ◌++◌, map, length, get_or, take, drop, ◌⊎◌, inl, inr, refl, sym, ap, ◌∙◌, arith, nat_le, Option}
-use Rattle.std.specs.List.{list_any, list_all, filter}
+use Rattle.std.proofs.Common.{◌≡◌, ℕ, suc, zero, ◌+◌, ◌<◌, ◌≤◌, true, false, List, [], ◌∷◌, ◌++◌, map, length, get_or, take, drop, inl, inr, refl, sym, ap, ◌∙◌, arith, Option}
+use Rattle.std.specs.List.{list_any, list_all}
 use Rattle.std.proofs.lemmas.Bool.{cases_Bool, le-leb, lt-leb, and_from, and_left, and_right, or_left, or_right, eq-eqb}
-use Rattle.std.proofs.lemmas.List.{length-append, length-map, append-nil, append_assoc}
+use Rattle.std.proofs.lemmas.List.{length-append, append-nil, append_assoc}
 use Rattle.std.proofs.lemmas.List.Folds.{list_all-append}
 use Rattle.normal_form.specs.Forms.{IsFormOf}
 use Rattle.firm_terms.specs.Resolving.{resolvent, is_tautology, distinct, row, resolvents, is_unit, is_short}
 use Rattle.var_elim.specs.declared.test.Work.{Work}
-use Rattle.var_elim.specs.Testing.{lits_at, Grows, Passed, Failed, RanOut}
+use Rattle.var_elim.specs.Testing.{lits_at, Passed, Failed, RanOut}
 use Rattle.var_elim.proofs.Forms.{form_length, form_distinct, grows_none, grows_one, grows_both}
 use Rattle.clause_store.specs.Stored.{Stored}
 

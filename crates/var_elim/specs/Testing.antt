@@ -1,6 +1,6 @@
 -- A variable is tested: its clauses are resolved pair by pair, up to the first resolvent that is too many or too long.
 use Rattle.std.specs.List.{list_all}
-use Rattle.std.specs.Prelude.{◌≡◌, ◌<◌, ◌≤◌, ◌+◌, ◌⊎◌, ℕ, Bool, true, false, List, [], ◌∷◌, ◌++◌, Option, length, map, slice_index_or}
+use Rattle.std.specs.Prelude.{◌≡◌, ◌<◌, ◌≤◌, ◌+◌, ◌⊎◌, ℕ, Bool, true, false, List, [], ◌∷◌, ◌++◌, Option, length, slice_index_or}
 use Rattle.sat_terms.specs.Literal.{has, neg}
 use Rattle.normal_form.specs.Forms.{IsFormOf}
 use Rattle.clause_store.specs.Stored.{Stored, slot, slot_lits, is_firm}

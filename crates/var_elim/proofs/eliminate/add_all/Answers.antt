@@ -1,5 +1,4 @@
-use Rattle.std.proofs.Common.{◌≡◌, ◌<◌, ◌∙◌, length, arith, List, ℕ, ap, get_or}
-use Rattle.pass_terms.specs.Ruled.Ruled.{none}
+use Rattle.std.proofs.Common.{arith}
 use Rattle.var_elim.proofs.Eliminating.{adding_none, adding_more, next_implied, next_normal}
 use Rattle.var_elim.proofs.eliminate.add_all.Goals as goal
 

@@ -1,4 +1,4 @@
-use Rattle.std.proofs.Common.{◌≡◌, ◌∙◌, refl}
+use Rattle.std.proofs.Common.{refl}
 use Rattle.var_elim.proofs.Settling.{settled_added}
 use Rattle.var_elim.proofs.Eliminating.{may_come, ruled_added, ruled_first, ruled_second, settled_second, both_gone, on_ok_map}
 use Rattle.var_elim.proofs.eliminate.eliminate.Goals as goal

@@ -1,5 +1,3 @@
-use Rattle.std.proofs.Common.{◌≡◌, ◌<◌, ◌∙◌}
-use Rattle.firm_terms.specs.Firm.{Holds}
 use Rattle.var_elim.proofs.Settling.{settled_witness}
 use Rattle.var_elim.proofs.Eliminating.{parking_none, parking_more, parking_fewer}
 use Rattle.var_elim.proofs.eliminate.park_all.Goals as goal

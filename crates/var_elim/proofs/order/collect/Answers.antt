@@ -1,6 +1,5 @@
-use Rattle.std.proofs.Common.{◌≡◌, ◌≤◌, ◌∙◌, arith, length, List}
+use Rattle.std.proofs.Common.{◌≤◌, arith, length}
 use Rattle.rule_kernel.specs.Frozen.{is_frozen}
-use Rattle.var_elim.specs.declared.order.Ranked.{Ranked}
 use Rattle.var_elim.proofs.Choosing.{ranks_sorted, filling_queued, filling_all}
 use Rattle.var_elim.proofs.order.collect.Goals as goal
 

@@ -1,4 +1,4 @@
-use Rattle.std.proofs.Common.{◌≡◌, ◌∙◌, ℕ, List, ap, refl}
+use Rattle.std.proofs.Common.{◌∙◌, ℕ, List, ap, refl}
 use Rattle.sat_terms.specs.Literal.{has}
 use Rattle.var_elim.proofs.Choosing.{put_has}
 use Rattle.var_elim.proofs.order.enqueue.Goals as goal

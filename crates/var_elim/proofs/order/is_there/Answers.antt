@@ -1,4 +1,4 @@
-use Rattle.std.proofs.Common.{◌≡◌, ◌<◌, ◌≤◌, ◌∙◌, sym, ap, arith, length}
+use Rattle.std.proofs.Common.{◌∙◌, sym, ap, arith}
 use Rattle.sat_terms.proofs.Literals.{var_of-pos_lit}
 use Rattle.sat_terms.specs.Literal.{var_of}
 use Rattle.var_elim.proofs.Choosing.{there_yes, there_no}

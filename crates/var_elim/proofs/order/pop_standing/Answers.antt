@@ -1,4 +1,4 @@
-use Rattle.std.proofs.Common.{◌≡◌, ◌∙◌, sym}
+use Rattle.std.proofs.Common.{◌∙◌, sym}
 use Rattle.firm_terms.specs.Firm.{firm}
 use Rattle.var_elim.proofs.Choosing.{candidate_none}
 use Rattle.var_elim.proofs.order.pop_standing.Goals as goal

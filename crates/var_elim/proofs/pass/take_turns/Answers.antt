@@ -1,4 +1,3 @@
-use Rattle.std.proofs.Common.{◌≡◌, ◌∙◌}
 use Rattle.rule_kernel.specs.Frozen.{is_frozen}
 use Rattle.var_elim.proofs.Passing.{ruled_turned, passing_none, passing_unmarked, passing_more, pass_ruled, limit_reached, fixpoint_reached}
 use Rattle.var_elim.proofs.pass.take_turns.Goals as goal

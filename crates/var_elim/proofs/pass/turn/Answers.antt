@@ -1,7 +1,6 @@
-use Rattle.std.proofs.Common.{◌≡◌, ◌≢◌, ◌≤◌, ◌∙◌, ◌-◌, ◌+◌, sym, refl, ap, arith, false, ℕ}
-use Rattle.firm_terms.specs.Firm.{firm, stands}
+use Rattle.std.proofs.Common.{◌≤◌, ◌∙◌, ◌-◌, ◌+◌, sym, ap, ℕ}
+use Rattle.firm_terms.specs.Firm.{firm}
 use Rattle.pass_terms.specs.Ruled.Ruled.{none}
-use Rattle.sat_terms.specs.Literal.{var_of, pos_lit}
 use Rattle.sat_terms.proofs.Literals.{var_of-pos_lit}
 use Rattle.var_elim.specs.Eliminating.{all_but}
 use Rattle.var_elim.proofs.Choosing.{candidate_none, candidate_is}

@@ -1,4 +1,3 @@
-use Rattle.std.proofs.Common.{◌≡◌, ◌∙◌, sym, arith}
 use Rattle.var_elim.proofs.Merging.{walk_left, walk_right, walk_both, walk_skip, walk_clash}
 use Rattle.var_elim.proofs.resolve.merge.Goals as goal
 

@@ -1,7 +1,6 @@
-use Rattle.std.proofs.Common.{◌≡◌, ◌<◌, ◌≤◌, ◌∙◌, ◌+◌, ◌*◌, refl, sym, ap, arith, length, map, take, drop, add-one, ℕ, List, suc}
+use Rattle.std.proofs.Common.{◌<◌, ◌≤◌, ◌∙◌, ◌+◌, ◌*◌, arith, length, map, add-one, ℕ, suc}
 use Rattle.std.proofs.lemmas.List.{get_or_default}
 use Rattle.std.proofs.Math.Nat.{mul-le-mul_left}
-use Rattle.firm_terms.specs.Resolving.{row, resolvents}
 use Rattle.var_elim.specs.Testing.{lits_at}
 use Rattle.var_elim.proofs.Trying.{passed_more, failed_more, square_next, square_split}
 use Rattle.var_elim.proofs.test.resolve_all.Goals as goal

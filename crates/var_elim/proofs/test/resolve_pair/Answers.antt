@@ -1,4 +1,4 @@
-use Rattle.std.proofs.Common.{◌≡◌, ◌<◌, ◌≤◌, ◌∙◌, refl, sym, ap, arith, length}
+use Rattle.std.proofs.Common.{refl, ap, arith, length}
 use Rattle.var_elim.proofs.Trying.{pair_clear, pair_many, pair_long}
 use Rattle.var_elim.specs.Testing.{lits_at}
 use Rattle.var_elim.proofs.Making.{form_clear}

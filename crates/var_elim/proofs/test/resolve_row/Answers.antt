@@ -1,6 +1,5 @@
-use Rattle.std.proofs.Common.{◌≡◌, ◌<◌, ◌≤◌, ◌∙◌, ◌+◌, refl, sym, ap, arith, length, map, take, drop, add-one}
+use Rattle.std.proofs.Common.{◌<◌, ◌∙◌, arith, length}
 use Rattle.std.proofs.lemmas.List.{get_or_default}
-use Rattle.firm_terms.specs.Resolving.{row}
 use Rattle.var_elim.specs.Testing.{lits_at}
 use Rattle.var_elim.proofs.Trying.{failed_more, row_split}
 use Rattle.var_elim.proofs.test.resolve_row.Goals as goal

@@ -1,6 +1,4 @@
-use Rattle.std.proofs.Common.{◌≡◌, ◌<◌, ◌≤◌, ◌∙◌, refl, sym, ap, arith, length, map, []}
-use Rattle.sat_terms.specs.Literal.{neg}
-use Rattle.clause_store.specs.Listing.{HasEachOnce, holds_at}
+use Rattle.std.proofs.Common.{◌∙◌, refl, sym, []}
 use Rattle.var_elim.proofs.Occurring.{all_firm, all_hold}
 use Rattle.var_elim.proofs.Making.{judged_early, judged}
 use Rattle.var_elim.proofs.test.test_var.Goals as goal
