@@ -158,7 +158,8 @@ impl Scene {
         let _store = &self.store;
     }
 
-    /// Adds a clause, which must be in normal form.
+    /// Adds a firm clause, which must be in normal form. The trail stays. After an error the clauses
+    /// are as before.
     pub fn add(&mut self, numbers: &[i32]) -> Result<ClauseId, Fail>
         ensures ok { IfOk result (λ id. Fills self.old.store self.new.store id
             (record { lits = map code_of numbers.now; keep = Firm; glue = 0 })) }
@@ -172,7 +173,7 @@ impl Scene {
         Ok(self.store.add(clause.as_slice(), Keep::Firm, 0)?)
     }
 
-    /// Decides a literal.
+    /// Decides a literal, which must be declared and have no value. After an error nothing changed.
     pub fn decide(&mut self, number: i32) -> Result<(), Fail>
         ensures ok { OnOk result (Decides self.old.trail self.new.trail (code_of number)) }
         ensures err { OnErr result (self.new.trail ≡ self.old.trail) }
@@ -186,7 +187,8 @@ impl Scene {
         Ok(())
     }
 
-    /// Assigns a literal that a clause implies.
+    /// Assigns a literal that a clause implies, with that clause as its reason. After an error nothing
+    /// changed.
     pub fn imply(&mut self, number: i32, reason: ClauseId) -> Result<(), Fail>
         ensures ok { OnOk result (Assigns self.old.trail self.new.trail (code_of number) reason) }
         ensures err { OnErr result (self.new.trail ≡ self.old.trail) }
@@ -201,7 +203,7 @@ impl Scene {
     }
 
     /// Puts a literal on the trail: decided where the number of its reason is 0, and else implied by
-    /// the clause of that number.
+    /// the clause of that number. After an error nothing changed.
     pub fn put(&mut self, ids: &[ClauseId], number: i32, reason: usize) -> Result<(), Fail>
         ensures decided { reason ≡ 0 → OnOk result (Decides self.old.trail self.new.trail
             (code_of number)) }
