@@ -17,8 +17,7 @@
 mod request;
 mod session;
 
-use crate::request::Request;
-use crate::session::Session;
+use crate::session::{Reply, Session};
 use sat_model::memory::Memory;
 use std::io;
 
@@ -27,24 +26,11 @@ fn main(rt: HostRuntime) -> io::Result<()> {
     let mut session = Session::new(alloc);
     for line in rt.lines(alloc) {
         let line = line?;
-        match Request::parse(line.as_str()) {
-            Request::Skip => {}
-            Request::Begin => session = Session::new(alloc),
-            Request::Freeze(number) => {
-                if session.freeze(number).is_err() {
-                    println!(rt; "no memory")?;
-                }
-            }
-            Request::Clause => {
-                if session.add(alloc, line.as_str()).is_err() {
-                    println!(rt; "no memory")?;
-                }
-            }
-            Request::Run(pass, limit) => match session.run(pass, limit) {
-                Ok(report) => println!(rt; "{report}")?,
-                Err(Memory) => println!(rt; "no memory")?,
-            },
-            Request::Unknown => println!(rt; "refused: {}", line.as_str())?,
+        match session.answer(alloc, line.as_str()) {
+            Ok(Reply::Nothing) => {}
+            Ok(Reply::Report(report)) => println!(rt; "{report}")?,
+            Ok(Reply::Refused) => println!(rt; "refused: {}", line.as_str())?,
+            Err(Memory) => println!(rt; "no memory")?,
         }
     }
     Ok(())

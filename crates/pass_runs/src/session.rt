@@ -5,7 +5,8 @@
 //! first pass are all there.
 ghost use Rattle.std.specs.Prelude.{◌≡◌};
 
-use crate::request::Pass;
+use crate::request::{Pass, Request};
+use clause_store::store::Store;
 use normal_form::forms::normal_form;
 use rule_kernel::frozen::Frozen;
 use rule_kernel::kernel::Kernel;
@@ -41,6 +42,17 @@ pub(crate) struct Report {
     stacked: usize,
 }
 
+// What is said of a line.
+#[derive(Clone, Copy)]
+pub(crate) enum Reply {
+    // Nothing.
+    Nothing,
+    // What a pass did.
+    Report(Report),
+    // That it asks for nothing that is known.
+    Refused,
+}
+
 impl fmt::Display for Report {
     fn fmt<W: fmt::Write>(&self, f: &mut fmt::Formatter<W>) -> fmt::Result {
         match self.pass.ended {
@@ -64,7 +76,7 @@ impl Session {
     }
 
     // Freezes the variable of a number, if it is one.
-    pub(crate) fn freeze(&mut self, number: u32) -> Result<(), Memory> {
+    fn freeze(&mut self, number: u32) -> Result<(), Memory> {
         match Var::new(number) {
             Some(var) => self.frozen.freeze(var),
             None => Ok(()),
@@ -72,7 +84,7 @@ impl Session {
     }
 
     // Adds the clause of a line of numbers, up to its first 0 or to its end.
-    pub(crate) fn add(&mut self, alloc: Global, line: &str) -> Result<(), Memory> {
+    fn add(&mut self, alloc: Global, line: &str) -> Result<(), Memory> {
         let mut lits = Vec::new(alloc);
         for word in line.split(' ') {
             match word.parse::<i32>() {
@@ -116,46 +128,77 @@ impl Session {
     }
 
     // Runs a pass, and says what is left.
-    pub(crate) fn run(&mut self, pass: Pass, limit: u64) -> Result<Report, Memory> {
+    fn run(&mut self, pass: Pass, limit: u64) -> Result<Report, Memory> {
         let report = self.work(pass, limit)?;
-        Ok(Report {
-            pass: report,
-            clauses: self.kernel.store().firm_ids().len(),
-            literals: self.literals(),
-            vars: self.standing(),
-            stacked: self.kernel.stack().len(),
-        })
+        Ok(report_of(report, &self.kernel, self.vars))
     }
 
-    // How many literals the firm clauses have together.
-    fn literals(&self) -> usize {
-        let mut count = 0usize;
-        for id in self.kernel.store().firm_ids() {
-            count = count.saturating_add(self.kernel.store().get(*id).len());
-        }
-        count
-    }
-
-    // How many variables stand in firm clauses.
-    fn standing(&self) -> u32 {
-        let mut count = 0u32;
-        for number in 1..=self.vars {
-            if self.stands(number) {
-                count = count.saturating_add(1);
+    // Does what a line asks for.
+    pub(crate) fn answer(&mut self, alloc: Global, line: &str) -> Result<Reply, Memory> {
+        match Request::parse(line) {
+            Request::Skip => Ok(Reply::Nothing),
+            Request::Begin => {
+                *self = Session::new(alloc);
+                Ok(Reply::Nothing)
             }
-        }
-        count
-    }
-
-    // Whether the variable of a number stands in a firm clause.
-    fn stands(&self, number: u32) -> bool {
-        match Var::new(number) {
-            Some(var) => {
-                !self.kernel.store().occ(var.positive()).is_empty()
-                    || !self.kernel.store().occ(var.negative()).is_empty()
+            Request::Freeze(number) => {
+                self.freeze(number)?;
+                Ok(Reply::Nothing)
             }
-            None => false,
+            Request::Clause => {
+                self.add(alloc, line)?;
+                Ok(Reply::Nothing)
+            }
+            Request::Run(pass, limit) => {
+                let report = self.run(pass, limit)?;
+                Ok(Reply::Report(report))
+            }
+            Request::Unknown => Ok(Reply::Refused),
         }
+    }
+}
+
+// How many literals the firm clauses have together.
+fn literals(store: &Store) -> usize {
+    let mut count = 0usize;
+    for id in store.firm_ids() {
+        if store.is_live(*id) {
+            count = count.saturating_add(store.get(*id).len());
+        }
+    }
+    count
+}
+
+// Whether the variable of a number stands in a firm clause.
+fn stands(store: &Store, number: u32) -> bool {
+    match Var::new(number) {
+        Some(var) => {
+            !store.occ(var.positive()).is_empty() || !store.occ(var.negative()).is_empty()
+        }
+        None => false,
+    }
+}
+
+// How many variables up to a number stand in firm clauses.
+fn standing(store: &Store, last: u32) -> u32 {
+    let mut count = 0u32;
+    for number in 1..=last {
+        if stands(store, number) {
+            count = count.saturating_add(1);
+        }
+    }
+    count
+}
+
+// What is said of a pass, over what it left.
+fn report_of(pass: PassReport, kernel: &Kernel, last: u32) -> Report {
+    let store = kernel.store();
+    Report {
+        pass,
+        clauses: store.firm_ids().len(),
+        literals: literals(store),
+        vars: standing(store, last),
+        stacked: kernel.stack().len(),
     }
 }
 
