@@ -17,8 +17,7 @@
 mod request;
 mod session;
 
-use crate::session::{Reply, Session};
-use sat_model::memory::Memory;
+use crate::session::Session;
 use std::io;
 
 fn main(rt: HostRuntime) -> io::Result<()> {
@@ -26,12 +25,8 @@ fn main(rt: HostRuntime) -> io::Result<()> {
     let mut session = Session::new(alloc);
     for line in rt.lines(alloc) {
         let line = line?;
-        match session.answer(alloc, line.as_str()) {
-            Ok(Reply::Nothing) => {}
-            Ok(Reply::Report(report)) => println!(rt; "{report}")?,
-            Ok(Reply::Refused) => println!(rt; "refused: {}", line.as_str())?,
-            Err(Memory) => println!(rt; "no memory")?,
-        }
+        let reply = session.answer(alloc, line.as_str());
+        print!(rt; "{reply}")?;
     }
     Ok(())
 }

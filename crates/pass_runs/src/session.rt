@@ -51,6 +51,19 @@ pub(crate) enum Reply {
     Report(Report),
     // That it asks for nothing that is known.
     Refused,
+    // That there was no memory for it.
+    NoMemory,
+}
+
+impl fmt::Display for Reply {
+    fn fmt<W: fmt::Write>(&self, f: &mut fmt::Formatter<W>) -> fmt::Result {
+        match self {
+            Reply::Nothing => Ok(()),
+            Reply::Report(report) => writeln!(f, "{report}"),
+            Reply::Refused => writeln!(f, "refused"),
+            Reply::NoMemory => writeln!(f, "no memory"),
+        }
+    }
 }
 
 impl fmt::Display for Report {
@@ -133,8 +146,16 @@ impl Session {
         Ok(report_of(report, &self.kernel, self.vars))
     }
 
+    // Does what a line asks for, and says so.
+    pub(crate) fn answer(&mut self, alloc: Global, line: &str) -> Reply {
+        match self.obey(alloc, line) {
+            Ok(reply) => reply,
+            Err(Memory) => Reply::NoMemory,
+        }
+    }
+
     // Does what a line asks for.
-    pub(crate) fn answer(&mut self, alloc: Global, line: &str) -> Result<Reply, Memory> {
+    fn obey(&mut self, alloc: Global, line: &str) -> Result<Reply, Memory> {
         match Request::parse(line) {
             Request::Skip => Ok(Reply::Nothing),
             Request::Begin => {
