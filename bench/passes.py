@@ -1,11 +1,13 @@
 #!/usr/bin/env python3
-"""Runs each pass of simplification alone, by crates/pass_runs, on texts of three kinds and of growing size, and prints what it did:
+"""Runs each pass of simplification alone, by crates/pass_runs, on texts of four kinds and of growing size, and prints what it did:
 the user seconds without the reading, the steps that were enough, the clauses that it removed, the variables that are left, and the
 ratios of seconds and steps to those at half the size. At the end it says which ratios are above 2.5. For elimination it also prints
 what MiniSat's own preprocessing takes for the same text, and how many variables that leaves, where the machine has minisat.
 
     bmc N      about N clauses: two counters of seven bits that step side by side from any state, unrolled
-    sort N     about N clauses: two sorting networks of different wiring that get the same bits, and must differ
+    sort N     about N clauses: pairs of sorting networks of different wiring over sixteen lines, each pair with the same bits and
+               outputs that must differ somewhere, as many as are needed
+    wide N     about N clauses: one such pair, over as many lines as are needed
     random N   N clauses of random 3-SAT with 4.2 clauses for each variable
 
 A pass reports no steps at its fixpoint; so --steps looks, by halving, for a limit that is just enough, within a twentieth.
@@ -14,7 +16,7 @@ Usage: bench/passes.py [--runs N] [--steps] [--sizes N ..] [KIND ..]
     --runs N    takes the best of so many processes (3)
     --steps     looks for the steps too, which takes some fifteen runs more for each
     --sizes     25000, 50000 and 100000 if none is named
-    KIND        bmc, sort and random if none is named
+    KIND        all four if none is named
 """
 import argparse
 import os
@@ -64,15 +66,26 @@ def odd_even(script, lines):
             compare_swap(script, lines, low, low + 1)
 
 
-def sort(size):
-    """Two sorting networks side by side: six clauses for each exchange, about n * n exchanges for n lines."""
-    script = Script()
-    count = max(2, int((size / 6) ** 0.5))
+def differ(script, count):
+    """Clauses that say that two sorting networks over so many lines make something else of the same bits."""
     inputs = [script.new_var() for _ in range(count)]
     one, other = list(inputs), list(inputs)
     bubble(script, one)
     odd_even(script, other)
     script.clause(*(script.xor_gate(a, b) for a, b in zip(one, other)))
+
+
+def sort(size):
+    script = Script()
+    while len(script.statements) < size:
+        differ(script, 16)
+    return script
+
+
+def wide(size):
+    """An exchange has six clauses, and a pair of networks over n lines has about n * n of them."""
+    script = Script()
+    differ(script, max(2, int((size / 6) ** 0.5)))
     return script
 
 
@@ -85,7 +98,7 @@ def random_3sat(size):
     return script
 
 
-KINDS = {"bmc": bmc, "sort": sort, "random": random_3sat}
+KINDS = {"bmc": bmc, "sort": sort, "wide": wide, "random": random_3sat}
 
 
 def dimacs(script):
@@ -143,21 +156,17 @@ def enough(text, name):
 
 
 def minisat(text):
-    """The user seconds of MiniSat's preprocessing, without those of reading and writing, and the variables that it leaves."""
+    """The seconds of MiniSat's preprocessing, as it says them itself, and the variables that it leaves."""
     with tempfile.TemporaryDirectory() as folder:
         given, left = os.path.join(folder, "given.cnf"), os.path.join(folder, "left.cnf")
         with open(given, "w", encoding="ascii") as file:
             file.write(text)
-        seconds = []
-        for switch in ("-no-pre", "-pre"):
-            command = ["minisat", "-verb=0", switch, f"-dimacs={left}", given]
-            child = subprocess.Popen(command, stdout=subprocess.DEVNULL, stderr=subprocess.DEVNULL)
-            _, status, used = os.wait4(child.pid, 0)
-            child.returncode = status
-            seconds.append(used.ru_utime)
+        command = ["minisat", "-verb=1", f"-dimacs={left}", given]
+        said = subprocess.run(command, stdout=subprocess.PIPE, stderr=subprocess.STDOUT, text=True).stdout
         with open(left, encoding="ascii") as file:
             head = next(line for line in file if line.startswith("p cnf"))
-        return max(seconds[1] - seconds[0], 0.0), int(head.split()[2])
+        seconds = re.search(r"Simplification time: +([0-9.]+) s", said)
+        return float(seconds[1]), int(head.split()[2])
 
 
 def ratio(now, before):
@@ -183,7 +192,7 @@ def measure(kind, sizes, runs, with_steps):
             row += f" {removed:8} removed, {left} of {stood} variables left"
             if name == "elimination" and shutil.which("minisat"):
                 pre, kept = minisat(text)
-                row += f"; MiniSat {pre:.3f} s, {kept} left"
+                row += f"; MiniSat {pre:.2f} s, {kept} left"
             print(row, flush=True)
             for what, now, old in (("seconds", seconds, last_seconds), ("steps", steps, last_steps)):
                 if now and old and old > 0.05 and now / old > WANTED:
