@@ -1,4 +1,14 @@
 //! What a line asks for.
+//!
+//! A text of clauses is measured by whoever doubts it, and most texts are DIMACS: so a line that begins with a digit or a sign is a
+//! clause, and one that begins with `c` or `p` is what it is there. Only what DIMACS has no word for is new: which variables are frozen,
+//! and which pass runs, as often and in whatever order one likes, for a pass that runs twice shows what the kernel remembers.
+//!
+//! A command is cut at its first space. What stands before it is one of a few words, and what stands behind it is a number, or the name of
+//! a pass and a number with a space between them; blanks at the end do no harm. Any other line is refused whole and changes nothing. The
+//! counts in a header are not compared with what follows, and a clause is one line.
+//!
+//! Left out: assumptions and queries, for there is no search here; options; and clauses over several lines.
 
 // A pass.
 #[derive(Clone, Copy, Debug, PartialEq, Eq)]

@@ -88,7 +88,7 @@ impl Session {
         }
     }
 
-    // Freezes the variable of a number, if it is one.
+    // Freezes the variable of a number; where it is none, nothing changes.
     fn freeze(&mut self, number: u32) -> Result<(), Memory> {
         match Var::new(number) {
             Some(var) => self.frozen.freeze(var),
@@ -96,7 +96,7 @@ impl Session {
         }
     }
 
-    // Adds the clause of a line of numbers, up to its first 0 or to its end.
+    // Adds the clause of a line of numbers. The 0 at its end is no literal, and what is no number is passed over.
     fn add(&mut self, alloc: Global, line: &str) -> Result<(), Memory> {
         let mut lits = Vec::new(alloc);
         for word in line.split(' ') {
