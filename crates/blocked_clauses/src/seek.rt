@@ -18,7 +18,9 @@ use sat_model::literal::Lit;
 // Whether a clause is blocked.
 #[derive(Clone, Copy)]
 pub(crate) enum Answer {
+    // Every resolvent is a tautology.
     Blocked,
+    // One is none.
     Open,
     // The limit left no step.
     Full,

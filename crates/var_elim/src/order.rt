@@ -30,6 +30,7 @@ use sat_model::memory::Memory;
 pub(crate) struct Ranked {
     // How far the product of its occurrences lies below the greatest that a candidate may have.
     spare: usize,
+    // The variable, which tells two of one rank apart.
     var: Var,
 }
 
