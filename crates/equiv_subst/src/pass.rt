@@ -17,12 +17,13 @@
 //! With M firm clauses at the start, a walk is at most 2 M steps and a replacement at most M, and
 //! never are there more firm clauses than before. Each round but the last replaces a variable at
 //! least. So after each replaced variable at most 3 M steps pass to the next.
-ghost use Rattle.std.specs.Prelude.{◌≡◌, ◌≢◌, ◌≤◌, ◌<◌, ◌+◌, ◌*◌, ◌-◌, ℕ, [], ◌∷◌, length, true, false, IfOk, MatchBool, count_by};
+ghost use Rattle.std.specs.Prelude.{◌≡◌, ◌≢◌, ◌≤◌, ◌<◌, ◌+◌, ◌*◌, ◌-◌, ℕ, [], ◌∷◌, length, true, false, Ok, IfOk, OnOk, MatchBool, count_by};
 ghost use Rattle.sat_terms.specs.Literal.{neg as opposite, var_of};
 ghost use Rattle.sat_terms.specs.Truth.{Implies};
 ghost use Rattle.clause_store.specs.Stored.{FirmTrue, is_firm};
 ghost use Rattle.rule_kernel.specs.Frozen.{is_frozen};
 ghost use Rattle.rule_kernel.specs.declared.report.Ended.TheVariants.{Fixpoint};
+ghost use Rattle.rule_kernel.specs.Settled.{IsUntied};
 ghost use Rattle.firm_terms.specs.Firm.{firm, stands, has_empty, Holds};
 ghost use Rattle.firm_terms.specs.Implying.{NoEquivalents};
 ghost use Rattle.rule_kernel.specs.Rules.{SameButMarks};
@@ -200,15 +201,18 @@ fn one_round(
     Ok(Round::Again)
 }
 
-// The kernel remembers an end at which there are no equivalences.
-fn remember(kernel: &mut Kernel, frozen: &Frozen)
+// The kernel remembers an end at which there are no equivalences, unless there is an empty clause.
+fn remember(kernel: &mut Kernel, frozen: &Frozen) -> Result<(), Memory>
     requires { has_empty (firm kernel.old.store) ≡ false → NoEquivalents (is_frozen frozen.now) kernel.old.store }
-    ensures { SameButMarks kernel.old kernel.new }
+    ensures same { SameButMarks kernel.old kernel.new }
+    ensures settled { OnOk result (has_empty (firm kernel.new.store) ≡ false
+        → IsUntied kernel.new.settled frozen.now) }
 {
     if is_refuted(kernel.store()) {
-        return;
+        return Ok(());
     }
-    kernel.settle_untied(frozen);
+    kernel.settle_untied(frozen)?;
+    Ok(())
 }
 
 /// Replaces each variable that is not frozen and is equivalent, by a strong component of the
@@ -221,8 +225,12 @@ fn remember(kernel: &mut Kernel, frozen: &Frozen)
 /// The kernel changes by its rules alone, as passes may use them (`Ruled`), whatever is answered:
 /// after `Memory` it is as the last rule left it. `removed` is the rise of the kernel's count of
 /// removals. Where an empty clause is firm, nothing changes; where one comes, since a literal is
-/// equivalent to its negation, the pass ends with `Fixpoint`. So it does, at once, where no clause
-/// came since a run that ended so under the same frozen variables, for the kernel remembers it.
+/// equivalent to its negation, the pass ends with `Fixpoint`.
+///
+/// After `Fixpoint` the kernel remembers that there are no equivalences beside just these frozen
+/// variables, unless there is an empty clause. Where it remembers so still, since no clause came,
+/// nothing changes, and the answer is `Fixpoint` with none removed, whatever the limit: it costs
+/// as many steps as variables are frozen.
 pub fn run(kernel: &mut Kernel, frozen: &Frozen, limit: u64) -> Result<PassReport, Memory>
     ensures ruled { Ruled (is_frozen frozen.now) kernel.old kernel.new }
     ensures removed { IfOk result (λ report.
@@ -232,9 +240,15 @@ pub fn run(kernel: &mut Kernel, frozen: &Frozen, limit: u64) -> Result<PassRepor
     ensures refuted { has_empty (firm kernel.old.store) ≡ true → kernel.new ≡ kernel.old }
     ensures refuted_ends { IfOk result (λ report.
         has_empty (firm kernel.old.store) ≡ true → report.ended ≡ Fixpoint) }
+    ensures settled { IfOk result (λ report. report.ended ≡ Fixpoint
+        → has_empty (firm kernel.new.store) ≡ false → IsUntied kernel.new.settled frozen.now) }
+    ensures idle { IsUntied kernel.old.settled frozen.now → kernel.new ≡ kernel.old }
+    ensures idle_ends { IsUntied kernel.old.settled frozen.now
+        → result ≡ Ok (record { removed = 0; ended = Fixpoint }) }
 {
     let removals = kernel.removals();
-    if kernel.is_untied(frozen) {
+    let untied = kernel.is_untied(frozen);
+    if untied {
         return Ok(PassReport {
             removed: 0,
             ended: Ended::Fixpoint,
@@ -251,7 +265,7 @@ pub fn run(kernel: &mut Kernel, frozen: &Frozen, limit: u64) -> Result<PassRepor
     loop {
         match one_round(alloc, kernel, frozen, &mut steps, limit)? {
             Round::Quiet => {
-                remember(kernel, frozen);
+                remember(kernel, frozen)?;
                 return Ok(PassReport {
                     removed: kernel.removals().saturating_sub(removals),
                     ended: Ended::Fixpoint,

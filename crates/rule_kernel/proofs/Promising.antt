@@ -1,6 +1,6 @@
 -- What passes may rely on, where a clause comes or goes.
 use Rattle.std.proofs.Common.{◌≡◌, ◌≢◌, ℕ, ◌<◌, Bool, true, false, not, ◌||◌, ◌&&◌, eqb, List, [], ◌∷◌, length, Option, ◌⊎◌, inl, inr, refl, sym, ap, ◌∙◌, subst}
-use Rattle.std.proofs.lemmas.Bool.{cases_Bool, cases_eq, false≢true, or_cases, or_parts, or_left, or_right, eq-eqb, eqb-true, ne_eqb}
+use Rattle.std.proofs.lemmas.Bool.{cases_Bool, cases_eq, false≢true, or_cases, or_parts, or_left, or_right, and_parts, and_from, eq-eqb, eqb-true, ne_eqb}
 use Rattle.sat_terms.specs.Literal.{has, neg}
 use Rattle.sat_terms.proofs.Literals.{neg-neg}
 use Rattle.clause_store.specs.Stored.{Stored, slot, slot_lits, is_firm, Fills, Frees}
@@ -28,6 +28,7 @@ promises_none m w x due fresh untied calm = record {
   lits = λ l h id b. false≢true b.holds.firm;
   due = λ id h. absurd (false≢true (rw due at h));
   fresh = λ id h. absurd (false≢true (rw fresh at h));
+  within = λ id h. absurd (false≢true (rw fresh at h));
   tried = λ i j a b. absurd (false≢true a);
   untied = λ h. absurd (false≢true (sym untied ∙ h));
   calm = λ h. absurd (false≢true (sym calm ∙ h));
@@ -35,6 +36,13 @@ promises_none m w x due fresh untied calm = record {
 
 or_none : (a b c : Bool) → c ≡ (a || b) → c ≡ false → (a ≡ false) × (b ≡ false)
 or_none a b c e h = or_parts a b (sym e ∙ h)
+
+-- what lies within still does where both get one more, or lose one
+also : (a b c : Bool) → (a ≡ true → b ≡ true) → (a || c) ≡ true → (b || c) ≡ true
+also a b c h e = elim (or_cases a c e) [ inl x ↦ or_left b c (h x) | inr y ↦ or_right b c y ]
+
+without : (a b c : Bool) → (a ≡ true → b ≡ true) → (a && c) ≡ true → (b && c) ≡ true
+without a b c h e = let p = and_parts a c e in and_from b c (h p.0) p.1
 
 neg_denies : (c : List ℕ) (l : ℕ) → has c (neg l) ≡ true → denies c l ≡ true
 neg_denies [] l h = h
@@ -69,6 +77,7 @@ module _ {s : List (Option Stored)} {m : Marked} {w : Waiting} {x : Settled} (p 
             blocks_none_filled s t id (firm_clause c) l fills o.1 (p.lits l o.0);
         due = still_firm w.due w'.due p.due waits.due;
         fresh = still_firm w.fresh w'.fresh p.fresh waits.fresh;
+        within = λ k h. waits.due k ∙ also (has w.fresh k) (has w.due k) (eqb id k) (p.within k) (sym (waits.fresh k) ∙ h);
         tried = λ i j a b ne some d f.
             let od = or_none (has w.due i) (eqb id i) (has w'.due i) (waits.due i) d in
             let of = or_none (has w.fresh j) (eqb id j) (has w'.fresh j) (waits.fresh j) f in
@@ -118,6 +127,7 @@ module _ {s : List (Option Stored)} {m : Marked} {w : Waiting} {x : Settled} (p 
             blocks_none_freed s t id l frees out (p.lits l o.0);
         due = left_firm w.due w'.due p.due leaves.due;
         fresh = left_firm w.fresh w'.fresh p.fresh leaves.fresh;
+        within = λ k h. leaves.due k ∙ without (has w.fresh k) (has w.due k) (not (eqb id k)) (p.within k) (sym (leaves.fresh k) ∙ h);
         tried = λ i j a b ne some d f.
             let ni = away i a in
             let nj = away j b in
@@ -135,6 +145,7 @@ module _ {s : List (Option Stored)} {m : Marked} {w : Waiting} {x : Settled} (p 
     lits = λ l h. blocks_none_kept s t same l (p.lits l h);
     due = λ k h. subst (λ (z : Option Stored). is_firm z ≡ true) (sym (none_went s t same k (p.due k h))) (p.due k h);
     fresh = λ k h. subst (λ (z : Option Stored). is_firm z ≡ true) (sym (none_went s t same k (p.fresh k h))) (p.fresh k h);
+    within = p.within;
     tried = λ i j a b ne some d f.
         let si = none_came s t same i a in
         let sj = none_came s t same j b in
@@ -166,6 +177,7 @@ module _ {s : List (Option Stored)} {m : Marked} {w : Waiting} {x : Settled} (p 
     lits = λ l h. p.lits l (rw lits at h);
     due = p.due;
     fresh = p.fresh;
+    within = p.within;
     tried = p.tried;
     untied = p.untied;
     calm = p.calm;
@@ -177,17 +189,22 @@ module _ {s : List (Option Stored)} {m : Marked} {w : Waiting} {x : Settled} (p 
     lits = λ l h. elim (without_one m.lits m'.lits lit l (lits l) h) [ inl a ↦ p.lits l a | inr e ↦ subst (BlocksNone s) (sym e) none ];
     due = p.due;
     fresh = p.fresh;
+    within = p.within;
     tried = p.tried;
     untied = p.untied;
     calm = p.calm;
   }
 
-  pub promises_due : (w' : Waiting) (id : ℕ) → ((k : ℕ) → has w'.due k ≡ (has w.due k && not (eqb id k))) → w'.fresh ≡ w.fresh → (is_firm (slot s id) ≡ true → IsDone s id) → Promises s m w' x
-  promises_due w' id due fresh done = record {
+  pub promises_due : (w' : Waiting) (id : ℕ) → ((k : ℕ) → has w'.due k ≡ (has w.due k && not (eqb id k))) → w'.fresh ≡ w.fresh → (is_firm (slot s id) ≡ true → IsDone s id) → has w.fresh id ≡ false → Promises s m w' x
+  promises_due w' id due fresh done tested = record {
     vars = p.vars;
     lits = p.lits;
     due = λ k h. p.due k (still w.due w'.due id due k h);
     fresh = λ k h. p.fresh k (rw fresh at h);
+    within = λ k h.
+        let h' : has w.fresh k ≡ true = rw fresh at h in
+        let apart : id ≢ k = λ e. false≢true (sym tested ∙ ap (has w.fresh) e ∙ h') in
+        due k ∙ without true (has w.due k) (not (eqb id k)) (λ _. p.within k h') (ap not (ne_eqb id k apart));
     tried = λ i j a b ne some d f.
         elim (without_one w.due w'.due id i (due i) d) [
           | inl before ↦ p.tried i j a b ne some before (rw fresh at f)
@@ -205,6 +222,7 @@ module _ {s : List (Option Stored)} {m : Marked} {w : Waiting} {x : Settled} (p 
     lits = p.lits;
     due = λ k h. p.due k (rw due at h);
     fresh = λ k h. p.fresh k (still w.fresh w'.fresh id fresh k h);
+    within = λ k h. ap (λ (z : List ℕ). has z k) due ∙ p.within k (still w.fresh w'.fresh id fresh k h);
     tried = λ i j a b ne some d f.
         elim (without_one w.fresh w'.fresh id j (fresh j) f) [
           | inl before ↦ p.tried i j a b ne some (rw due at d) before
@@ -220,6 +238,7 @@ module _ {s : List (Option Stored)} {m : Marked} {w : Waiting} {x : Settled} (p 
     lits = p.lits;
     due = λ k h. sym (due k) ∙ h;
     fresh = λ k h. absurd (false≢true (rw fresh at h));
+    within = λ k h. absurd (false≢true (rw fresh at h));
     tried = λ i j a b ne some d f. absurd (false≢true (sym d ∙ due i ∙ a));
     untied = p.untied;
     calm = p.calm;
@@ -231,6 +250,7 @@ module _ {s : List (Option Stored)} {m : Marked} {w : Waiting} {x : Settled} (p 
     lits = p.lits;
     due = p.due;
     fresh = p.fresh;
+    within = p.within;
     tried = p.tried;
     untied = untied;
     calm = calm;

@@ -53,13 +53,14 @@ Tried s due fresh =
     → has due i ≡ false → has fresh j ≡ false → IsFree (slot_lits (slot s i)) (slot_lits (slot s j))
 
 -- What passes may rely on. A variable without a mark is no candidate for elimination. A literal without a mark has no clause that is
--- blocked on it. Clauses that do not wait neither lie within one another nor shorten one another. Where it is settled so, there are no
--- equivalences, and vivification shortens no clause.
+-- blocked on it. A clause on which all others wait to be tried is due itself. Clauses that do not wait neither lie within one another nor
+-- shorten one another. Where it is settled so, there are no equivalences, and vivification shortens no clause.
 pub record Promises (s : List (Option Stored)) (marked : Marked) (waiting : Waiting) (settled : Settled) : Type 0 where
   pub vars : (v : ℕ) → has marked.vars v ≡ false → candidate (firm s) v ≡ false
   pub lits : (l : ℕ) → has marked.lits l ≡ false → BlocksNone s l
   pub due : AllFirm s waiting.due
   pub fresh : AllFirm s waiting.fresh
+  pub within : (id : ℕ) → has waiting.fresh id ≡ true → has waiting.due id ≡ true
   pub tried : Tried s waiting.due waiting.fresh
   pub untied : settled.untied ≡ true → NoEquivalents (is_frozen settled.frozen) s
   pub calm : settled.calm ≡ true → AllCalm s

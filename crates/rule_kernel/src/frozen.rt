@@ -2,7 +2,7 @@
 //!
 //! A witness on a variable that the caller may still ask for, by an assumption or in a new clause, would have its entry restored at once:
 //! so such a variable is frozen for a pass.
-ghost use Rattle.std.specs.Prelude.{◌≡◌, ◌||◌, ◌==◌, ◌↔◌, ℕ, false, OnErr, OnOk, IsTrue};
+ghost use Rattle.std.specs.Prelude.{◌≡◌, ◌||◌, ◌==◌, ◌↔◌, ℕ, false, IfOk, OnErr, OnOk, IsTrue};
 ghost use Rattle.rule_kernel.specs.Frozen.{is_frozen};
 
 use flag_set::set::FlagSet;
@@ -58,12 +58,13 @@ impl Frozen {
         self.vars.is_same(&other.vars)
     }
 
-    // Takes the variables of another set in place of its own. After `Memory` it may have any part of them.
-    pub(crate) fn copy_from(&mut self, other: &Frozen) -> Result<(), Memory>
-        ensures { OnOk result ((v : ℕ) → is_frozen self.new v ≡ is_frozen other.now v) }
+    // Another set with the same variables. It costs as many steps as variables were frozen since this one was new or cleared.
+    pub(crate) fn copy(&self, alloc: Global) -> Result<Frozen, Memory>
+        ensures { IfOk result (λ copy. (v : ℕ) → is_frozen copy v ≡ is_frozen self.now v) }
     {
-        self.vars.clear();
-        self.vars.put_all(&other.vars)
+        let mut vars = FlagSet::new(alloc);
+        vars.put_all(&self.vars)?;
+        Ok(Frozen { vars })
     }
 
     /// Takes all variables out of the set. It costs as many steps as variables were frozen since it was new or cleared.

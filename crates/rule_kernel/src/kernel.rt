@@ -32,7 +32,7 @@ ghost use Rattle.firm_terms.specs.Vivifying.{AllCalm};
 ghost use Rattle.rule_kernel.specs.Changes.{marked, HasRoom, MarksCame, MarksWent};
 ghost use Rattle.rule_kernel.specs.Frozen.{is_frozen};
 ghost use Rattle.rule_kernel.specs.Waiting.{waiting as waiting_of, signature, Signs, Waits, Leaves};
-ghost use Rattle.rule_kernel.specs.Settled.{unsettled};
+ghost use Rattle.rule_kernel.specs.Settled.{unsettled, IsUntied};
 ghost use Rattle.rule_kernel.specs.State.{IsChained, IsPromised, FirmIds, AllFirm};
 ghost use Rattle.rule_kernel.specs.Rules.{counted, firm_clause, Applies, Add, AddImplied, DropImplied, Park, Restore, Learn, Forget, SameRest, SameButMarks};
 
@@ -252,7 +252,7 @@ impl Kernel {
         self.waiting.due()
     }
 
-    /// The ids of the clauses on which all others wait to be tried, each once.
+    /// The ids of the clauses on which all others wait to be tried, each once. They are due too.
     pub fn fresh(&self) -> &[ClauseId]
         ensures { result.now ≡ self.now.waiting.fresh }
     {
@@ -268,9 +268,11 @@ impl Kernel {
         self.waiting.signature(id)
     }
 
-    /// A clause neither lies within another firm one nor shortens one: it waits no longer to be tried on them.
+    /// A clause on which all others were tried neither lies within another firm one nor shortens one: it waits no longer to be tried on
+    /// them.
     pub fn settle_due(&mut self, id: ClauseId)
-        requires { is_firm (slot self.old.store id) ≡ true → IsDone self.old.store id }
+        requires done { is_firm (slot self.old.store id) ≡ true → IsDone self.old.store id }
+        requires fresh { has self.old.waiting.fresh id ≡ false }
         ensures due { (k : ℕ) → has self.new.waiting.due k ≡ (has self.old.waiting.due k && not (id == k)) }
         ensures fresh { self.new.waiting.fresh ≡ self.old.waiting.fresh }
         ensures marked { self.new.marked ≡ self.old.marked }
@@ -304,23 +306,28 @@ impl Kernel {
         self.waiting.all_due(self.store.firm_ids());
     }
 
-    /// Whether it is known that no variable but these frozen ones is equivalent to a literal of another one.
+    /// Whether it is settled that no variable but these frozen ones is equivalent to a literal of another one: just where that was found
+    /// under the same frozen variables, and no clause came since.
     pub fn is_untied(&self, frozen: &Frozen) -> bool
-        ensures { IsTrue result → NoEquivalents (is_frozen frozen.now) self.now.store }
+        ensures known { IsTrue result ↔ IsUntied self.now.settled frozen.now }
+        ensures untied { IsTrue result → NoEquivalents (is_frozen frozen.now) self.now.store }
     {
         self.settled.is_untied(frozen)
     }
 
-    /// No variable but some frozen ones is equivalent to a literal of another one: this is remembered until a clause comes, where there is
-    /// memory for the frozen variables.
-    pub fn settle_untied(&mut self, frozen: &Frozen)
+    /// No variable but some frozen ones is equivalent to a literal of another one: this is remembered, with these frozen variables, until
+    /// a clause comes. After `Memory` nothing changed.
+    pub fn settle_untied(&mut self, frozen: &Frozen) -> Result<(), Memory>
         requires { NoEquivalents (is_frozen frozen.now) self.old.store }
+        ensures ok { OnOk result (IsUntied self.new.settled frozen.now) }
+        ensures calm { self.new.settled.calm ≡ self.old.settled.calm }
         ensures marked { self.new.marked ≡ self.old.marked }
         ensures waiting { self.new.waiting ≡ self.old.waiting }
-        ensures calm { self.new.settled.calm ≡ self.old.settled.calm }
         ensures rest { SameButMarks self.old self.new }
+        ensures err { OnErr result (self.new ≡ self.old) }
     {
-        self.settled.settle_untied(frozen);
+        self.settled.settle_untied(self.alloc, frozen)?;
+        Ok(())
     }
 
     /// Whether it is known that vivification shortens no clause.
@@ -336,6 +343,8 @@ impl Kernel {
         requires { AllCalm self.old.store }
         ensures marked { self.new.marked ≡ self.old.marked }
         ensures waiting { self.new.waiting ≡ self.old.waiting }
+        ensures untied { self.new.settled.untied ≡ self.old.settled.untied }
+        ensures frozen { self.new.settled.frozen ≡ self.old.settled.frozen }
         ensures calm { self.new.settled.calm ≡ true }
         ensures rest { SameButMarks self.old self.new }
     {

@@ -3,11 +3,12 @@
 //! Whether literals are equivalent, and whether vivification shortens a clause, depends on all clauses at once, so no mark can say where to
 //! look again. But neither comes about where clauses only go: there are fewer implications then, and less is propagated. So it is remembered
 //! that a pass found nothing any more, until a clause comes, and with it, for the equivalences, which variables were frozen then.
-ghost use Rattle.std.specs.Prelude.{◌≡◌, ℕ, true, false, IsTrue};
+ghost use Rattle.std.specs.Prelude.{◌≡◌, ◌↔◌, ℕ, true, false, IsTrue, OnOk, OnErr};
 ghost use Rattle.rule_kernel.specs.Frozen.{is_frozen};
-ghost use Rattle.rule_kernel.specs.Settled.{unsettled};
+ghost use Rattle.rule_kernel.specs.Settled.{unsettled, IsUntied};
 
 use crate::frozen::Frozen;
+use sat_model::memory::Memory;
 use std::alloc::Global;
 use std::marker::Model;
 
@@ -50,10 +51,9 @@ impl Settled {
         self.calm
     }
 
-    // Whether it is known that there are no equivalences beside these frozen variables.
+    // Whether it is known that there are no equivalences beside just these frozen variables.
     pub(crate) fn is_untied(&self, frozen: &Frozen) -> bool
-        ensures untied { IsTrue result → self.now.untied ≡ true }
-        ensures frozen { IsTrue result → (v : ℕ) → is_frozen self.now.frozen v ≡ is_frozen frozen.now v }
+        ensures { IsTrue result ↔ IsUntied self.now frozen.now }
     {
         self.untied && self.frozen.is_same(frozen)
     }
@@ -75,11 +75,15 @@ impl Settled {
         self.calm = true;
     }
 
-    // There are no equivalences beside some frozen variables. Where there is no memory for these, it is forgotten.
-    pub(crate) fn settle_untied(&mut self, frozen: &Frozen)
-        ensures frozen { self.new.untied ≡ true → (v : ℕ) → is_frozen self.new.frozen v ≡ is_frozen frozen.now v }
+    // There are no equivalences beside just some frozen variables. After `Memory` nothing changed.
+    pub(crate) fn settle_untied(&mut self, alloc: Global, frozen: &Frozen) -> Result<(), Memory>
+        ensures ok { OnOk result (IsUntied self.new frozen.now) }
         ensures calm { self.new.calm ≡ self.old.calm }
+        ensures err { OnErr result (self.new ≡ self.old) }
     {
-        self.untied = self.frozen.copy_from(frozen).is_ok();
+        // The copy is made first, so that what was known stays where there is no memory for it.
+        self.frozen = frozen.copy(alloc)?;
+        self.untied = true;
+        Ok(())
     }
 }

@@ -9,7 +9,7 @@
 //!
 //! With L the sum of the lengths of the firm clauses at the start, a round is at most L steps,
 //! and each but the last takes a literal away. So L (L + 1) steps are enough.
-ghost use Rattle.std.specs.Prelude.{◌≡◌, ◌≤◌, ◌<◌, ◌-◌, ℕ, List, [], true, false, Option, IfOk, OnOk};
+ghost use Rattle.std.specs.Prelude.{◌≡◌, ◌≤◌, ◌<◌, ◌-◌, ℕ, List, [], true, false, Option, Ok, IfOk, OnOk};
 ghost use Rattle.sat_terms.specs.Limits.{max_var};
 ghost use Rattle.clause_store.specs.Stored.{Stored};
 ghost use Rattle.rule_kernel.specs.Frozen.{is_frozen};
@@ -75,7 +75,8 @@ fn set_up(store: &Store, watches: &mut Watches, trail: &mut Trail) -> Result<(),
 // The kernel remembers an end at which vivification shortens no clause.
 fn remember(kernel: &mut Kernel, ended: Ended)
     requires { ended ≡ Fixpoint → AllCalm kernel.old.store }
-    ensures { SameButMarks kernel.old kernel.new }
+    ensures same { SameButMarks kernel.old kernel.new }
+    ensures settled { ended ≡ Fixpoint → kernel.new.settled.calm ≡ true }
 {
     match ended {
         Ended::Fixpoint => kernel.settle_calm(),
@@ -92,8 +93,11 @@ fn remember(kernel: &mut Kernel, ended: Ended)
 /// The kernel changes by its rules alone, as passes may use them (`Ruled`), whatever is answered:
 /// after `Memory` it is as the last rule left it. No clause is parked, whatever is frozen.
 /// `removed` is the rise of the kernel's count of removals. Where an empty clause is firm,
-/// nothing changes, and the answer is `Fixpoint`. So it is, at once, where no clause came since a
-/// run that ended so, for the kernel remembers it.
+/// nothing changes, and the answer is `Fixpoint`.
+///
+/// After any other `Fixpoint` the kernel remembers that no clause is shortened. Where it remembers
+/// so still, since no clause came, nothing changes, and the answer is `Fixpoint` with none removed,
+/// whatever the limit: it costs no step and no time.
 pub fn run(kernel: &mut Kernel, frozen: &Frozen, limit: u64) -> Result<PassReport, Memory>
     ensures ruled { Ruled (is_frozen frozen.now) kernel.old kernel.new }
     ensures removed { IfOk result (λ report.
@@ -103,11 +107,17 @@ pub fn run(kernel: &mut Kernel, frozen: &Frozen, limit: u64) -> Result<PassRepor
     ensures refuted { has_empty (firm kernel.old.store) ≡ true → kernel.new ≡ kernel.old }
     ensures refuted_ends { IfOk result (λ report.
         has_empty (firm kernel.old.store) ≡ true → report.ended ≡ Fixpoint) }
+    ensures settled { IfOk result (λ report. has_empty (firm kernel.old.store) ≡ false
+        → report.ended ≡ Fixpoint → kernel.new.settled.calm ≡ true) }
+    ensures idle { kernel.old.settled.calm ≡ true → kernel.new ≡ kernel.old }
+    ensures idle_ends { kernel.old.settled.calm ≡ true
+        → result ≡ Ok (record { removed = 0; ended = Fixpoint }) }
 {
     // Nothing is parked, so nothing need be asked of it.
     let _ = frozen;
     let removals = kernel.removals();
-    if kernel.is_calm() {
+    let calm = kernel.is_calm();
+    if calm {
         return Ok(PassReport {
             removed: 0,
             ended: Ended::Fixpoint,
