@@ -66,7 +66,7 @@ fn stop_run<K: Sink>(stop: Stop, sink: &mut K) -> Status
     }
 }
 
-// Whether the end of a whole input is one more query.
+// Whether the end of a whole input is one more query. No reader gives a header of the kind `Knf` yet.
 fn has_last_query(kind: HeadKind) -> bool
     ensures { result ≡ asks_at_end kind }
 {

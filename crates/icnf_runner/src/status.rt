@@ -1,12 +1,12 @@
 //! The exit statuses of the program.
 //!
-//! A run ends with one number, and each number has one cause: so a script can tell an answer from a
+//! A run ends with one number, and each number has one kind of cause: so a script can tell an answer from a
 //! refusal, and a fault of the source from one of the sink, without reading the output. 10 and 20
 //! are those of the SAT competitions, which all solvers give for their last answer; 0 is given
 //! where the last query stayed open, or where there was none. The numbers from 1 to 5 tell what
 //! ended the run before the end of its input: what was given is at fault in 1 and 2, the world
-//! around the program in 3, 4 and 5. The contract of `run` ties each status to what happened, in
-//! both directions.
+//! around the program in 3, 4 and 5. The contract of `run` ties each status but 5 to what happened,
+//! in both directions; no clause says when memory is wanting.
 
 /// How a run ended: the exit status of the program.
 #[derive(Clone, Copy, Debug, PartialEq, Eq)]
