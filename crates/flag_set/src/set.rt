@@ -199,9 +199,12 @@ impl<T: Member> FlagSet<T> {
         Ok(())
     }
 
-    /// Puts the members of another set into the set. After `Memory` some of them came.
+    /// Puts the members of another set into the set. After `Memory` some of them came. Whatever is answered, the old members stay, and
+    /// none comes but those of the other set.
     pub fn put_all(&mut self, other: &FlagSet<T>) -> Result<(), Memory>
-        ensures { OnOk result ((n : ℕ) → holds self.new n ≡ (holds self.old n || holds other.now n)) }
+        ensures ok { OnOk result ((n : ℕ) → holds self.new n ≡ (holds self.old n || holds other.now n)) }
+        ensures more { (n : ℕ) → holds self.old n ≡ true → holds self.new n ≡ true }
+        ensures only { (n : ℕ) → holds self.new n ≡ true → (holds self.old n || holds other.now n) ≡ true }
     {
         self.put_each(other.listed.as_slice(), other.flags.as_slice())
     }
