@@ -1,0 +1,4 @@
+pub mod Admitting
+pub mod Leading
+pub mod Following
+pub mod Saying
