@@ -25,13 +25,15 @@ all_from p (x ∷ xs) h =
 
 -- the test says what the words say
 pub no_two_says : (f : Assignment) (group : List ℕ) → no_two f group ≡ true → NoTwo f group
-no_two_says f group h = record { same = λ u v mu mv fu fv.
-    let test : ℕ → ℕ → Bool = λ x y. eqb x y || not (f x && f y) in
-    let pair : test u v ≡ true = all_has (test u) group v (all_has (λ x. list_all (test x) group) group u h mu) mv in
-    elim (or_cases (eqb u v) (not (f u && f v)) pair) [
-      | inl e ↦ eqb-true u v e
-      | inr n ↦ absurd (false≢true (rw (fu, fv) at n))
-    ] }
+no_two_says f group h = record {
+  same = λ u v mu mv fu fv.
+      let test : ℕ → ℕ → Bool = λ x y. eqb x y || not (f x && f y) in
+      let pair : test u v ≡ true = all_has (test u) group v (all_has (λ x. list_all (test x) group) group u h mu) mv in
+      elim (or_cases (eqb u v) (not (f u && f v)) pair) [
+        | inl e ↦ eqb-true u v e
+        | inr n ↦ absurd (false≢true (rw (fu, fv) at n))
+      ];
+}
 
 pub no_two_from : (f : Assignment) (group : List ℕ) → NoTwo f group → no_two f group ≡ true
 no_two_from f group h =

@@ -51,6 +51,9 @@ module _ (group : List ℕ) where
   pub from_led : (c : Seen) (passed level : ℕ) (t : SeenTrail) → IsLed group c passed level t → follows group (Some c) passed level t ≡ true
   from_led c passed level t h = rw (eq-eqb t.level level h.at, le-leb c.level level h.low, h.leads) h.settled
 
+  pub led_follows : (chosen : Option Seen) (c : Seen) (passed level : ℕ) (t : SeenTrail) → chosen ≡ Some c → IsLed group c passed level t → follows group chosen passed level t ≡ true
+  led_follows chosen c passed level t is h = rw is (from_led c passed level t h)
+
   -- what is settled stays so
   settled_stays : (c : Seen) (seen more : List Seen) (xs : List ℕ) → list_all (is_settled seen c.lit) xs ≡ true → list_all (is_settled (seen ++ more) c.lit) xs ≡ true
   settled_stays c seen more [] h = refl

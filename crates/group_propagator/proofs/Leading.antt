@@ -6,7 +6,6 @@ use Rattle.std.specs.List.{list_all}
 use Rattle.std.proofs.lemmas.Bool.{and_parts, and_from, cases_Bool, cases_eq, not-true, not_from_false, eq-eqb, ne_eqb, eqb-true, eqb-false, leb-true, le-leb, lt-leb, false≢true}
 use Rattle.std.proofs.lemmas.List.Folds.{list_all-append}
 use Rattle.sat_terms.specs.Literal.{has, neg, pos_lit, var_of}
-use Rattle.sat_terms.proofs.Literals.{neg-neg, neg-other, var_of-pos_lit}
 use Rattle.user_propagator.specs.declared.seen.Seen.{Seen}
 use Rattle.user_propagator.specs.Board.{trail_value, within}
 use Rattle.group_propagator.specs.Group.{is_true_member, none_true, leads}
@@ -54,22 +53,21 @@ module _ (group : List ℕ) where
   behind_leads : (c x : Seen) (xs : List Seen) → IsBehind c x xs → leads group c (x ∷ xs) ≡ true
   behind_leads c x xs h = rw (h.other, ne_eqb x.lit (neg c.lit) h.apart) h.rest
 
-  -- the chosen literal makes a member true, and its negation is false
+  -- the chosen literal makes a member true, and is true itself
   pub chosen_member : (c : Seen) (seen : List Seen) → leads group c seen ≡ true → is_true_member group c.lit ≡ true
   chosen_member c [] h = absurd (false≢true h)
   chosen_member c (x ∷ xs) h =
       by_head c x xs (is_true_member group c.lit ≡ true) h
       (λ y now. subst (λ l. is_true_member group l ≡ true) now.same y) (λ later. chosen_member c xs later.rest)
 
-  pub chosen_value : (c : Seen) (seen : List Seen) → leads group c seen ≡ true → trail_value seen (neg c.lit) ≡ Some false
+  pub chosen_value : (c : Seen) (seen : List Seen) → leads group c seen ≡ true → trail_value seen c.lit ≡ Some true
   chosen_value c [] h = absurd (false≢true h)
   chosen_value c (x ∷ xs) h =
-      by_head c x xs (trail_value (x ∷ xs) (neg c.lit) ≡ Some false) h
-      (λ y now.
-      rw (ne_eqb x.lit (neg c.lit) (λ e. neg-other c.lit (sym e ∙ now.same)), eq-eqb x.lit (neg (neg c.lit)) (now.same ∙ sym (neg-neg c.lit))) refl)
+      by_head c x xs (trail_value (x ∷ xs) c.lit ≡ Some true) h
+      (λ y now. rw (eq-eqb x.lit c.lit now.same) refl)
       (λ later.
-      let other : x.lit ≢ neg (neg c.lit) = λ e. both_ways (is_true_member group x.lit) (subst (λ l. is_true_member group l ≡ true) (sym (e ∙ neg-neg c.lit)) (chosen_member c xs later.rest)) later.other in
-      rw (ne_eqb x.lit (neg c.lit) later.apart, ne_eqb x.lit (neg (neg c.lit)) other) (chosen_value c xs later.rest))
+      let other : x.lit ≢ c.lit = λ e. both_ways (is_true_member group x.lit) (subst (λ l. is_true_member group l ≡ true) (sym e) (chosen_member c xs later.rest)) later.other in
+      rw (ne_eqb x.lit c.lit other, ne_eqb x.lit (neg c.lit) later.apart) (chosen_value c xs later.rest))
 
   -- a literal is told
   pub none_put : (seen : List Seen) (e : Seen) → none_true group seen ≡ true → is_true_member group e.lit ≡ false → none_true group (seen ++ e ∷ []) ≡ true

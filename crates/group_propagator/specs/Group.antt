@@ -1,11 +1,11 @@
 -- A group of variables of which at most one is true, and what its propagator knows of a seen trail.
-use Rattle.std.specs.Prelude.{ℕ, ◌≡◌, ◌≢◌, ◌↔◌, ◌==◌, ◌%◌, ◌&&◌, ◌||◌, not, Bool, true, false, nat_le, if◌then◌else◌}
+use Rattle.std.specs.Prelude.{ℕ, ◌≡◌, ◌≢◌, ◌↔◌, ◌⊎◌, ◌==◌, ◌%◌, ◌&&◌, ◌||◌, not, Bool, true, false, nat_le, if◌then◌else◌}
 use Rattle.std.specs.Prelude.{List, [], ◌∷◌, take, find, Option, Some, None}
 use Rattle.std.specs.List.{list_all}
 use Rattle.sat_terms.specs.Literal.{has, neg, var_of, pos_lit, neg_lit}
 use Rattle.sat_terms.specs.Truth.{Assignment}
 use Rattle.user_propagator.specs.declared.seen.Seen.{Seen}
-use Rattle.user_propagator.specs.Board.{Board, SeenTrail, empty_board, trail_value}
+use Rattle.user_propagator.specs.Board.{Board, SeenTrail, empty_board, trail_value, with_handed}
 use Rattle.user_propagator.specs.Meaning.{Meaning, InStep}
 
 -- two members that are both true are the same one: at most one member is true
@@ -93,6 +93,25 @@ pub record IsSettled (b : Board) (group : List ℕ) : Type 0 where
       → (u v : ℕ) → has group u ≡ true → has group v ≡ true → u ≢ v
       → trail_value b.seen (pos_lit u) ≡ Some true → trail_value b.seen (pos_lit v) ≡ Some false
 
+-- Two different members are true on the seen trail, and the clause was handed that says that one
+-- of them is false.
+pub record HandsTwo (group : List ℕ) (was now : Board) (u v : ℕ) : Type 0 where
+  pub first : has group u ≡ true
+  pub second : has group v ≡ true
+  pub apart : u ≢ v
+  pub holds : trail_value was.seen (pos_lit u) ≡ Some true
+  pub holds_too : trail_value was.seen (pos_lit v) ≡ Some true
+  pub handed : now ≡ with_handed was (neg_lit u ∷ neg_lit v ∷ []) false
+
+-- what `propagate` leaves on the desk beside its answer, and what `check` does
+abbrev pub Spoken : List ℕ → Board → Board → Option ℕ → Type 0
+Spoken group was now (Some l) = (now ≡ was) × (is_false_member group l ≡ true)
+Spoken group was now None = (now ≡ was) ⊎ ((u : ℕ) × (v : ℕ) × HandsTwo group was now u v)
+
+abbrev pub Judged : List ℕ → Board → Board → Bool → Type 0
+Judged group was now true = now ≡ was
+Judged group was now false = (u : ℕ) × (v : ℕ) × HandsTwo group was now u v
+
 -- what stays of the chosen literal at a way back to a level
 abbrev pub kept_at : ℕ → Option Seen → Option Seen
 kept_at level None = None
@@ -114,8 +133,3 @@ pub record AreTwo (f : Assignment) (group : List ℕ) (two : ℕ × ℕ) : Type 
   pub apart : two.0 ≢ two.1
   pub holds : f two.0 ≡ true
   pub holds_too : f two.1 ≡ true
-
--- a variable is observed, and true on the seen trail
-pub record IsTold (b : Board) (v : ℕ) : Type 0 where
-  pub known : has b.observed v ≡ true
-  pub against : trail_value b.seen (neg_lit v) ≡ Some false

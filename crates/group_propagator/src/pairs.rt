@@ -1,4 +1,12 @@
-//! The search of a model for two members of a group that are both true.
+//! Two members of a group that a model makes true, if there are two.
+//!
+//! A whole model is judged once, at the end of a search, so it is gone through from the front with no
+//! regard to what was found before: for the first member that it makes true, and then for the first
+//! other one. Two passes keep each loop to one question.
+//!
+//! Where the first pass finds none, no member is true; where the second finds none, no member but
+//! that one is. Either way at most one is true. A variable that stands in the list twice is passed
+//! over as often as it stands there, so the two that are found are different.
 ghost use Rattle.std.specs.Prelude.{◌≡◌, ◌≢◌, not, true, IfSome, IfNone};
 ghost use Rattle.std.specs.List.{list_all};
 ghost use Rattle.sat_terms.specs.Truth.{values};
