@@ -2,3 +2,4 @@ pub mod Admitting
 pub mod Leading
 pub mod Following
 pub mod Saying
+pub mod Boards

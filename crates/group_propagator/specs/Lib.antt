@@ -1,3 +1,4 @@
 pub mod Group
 pub mod Depends
 pub mod Meant
+pub mod Boards

@@ -3,4 +3,6 @@
 
 pub mod at_most_one;
 mod pairs;
+#[cfg(test)]
+mod tests;
 mod walk;

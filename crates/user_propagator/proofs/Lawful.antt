@@ -2,7 +2,8 @@
 -- value on the seen trail says.
 use Rattle.std.proofs.Common.{ℕ, zero, suc, ◌≡◌, ◌≢◌, ◌<◌, ◌||◌, Bool, true, false, not, cond, eqb, List, [], ◌∷◌, ◌++◌, length, Option, Some, None, inl, inr, refl, sym, ap, ◌∙◌, subst, arith}
 use Rattle.std.specs.Prelude.{option_map}
-use Rattle.std.proofs.Math.Seq.{drop-append_seam, drop-length}
+use Rattle.std.proofs.Math.Seq.{drop-append_seam, drop-length, take-append_seam, get_or-append_seam}
+use Rattle.std.proofs.lemmas.List.{length-append}
 use Rattle.std.proofs.lemmas.Bool.{or_cases, or_left, eqb-true, eq-eqb, ne_eqb, cases_eq, false≢true}
 use Rattle.std.proofs.lemmas.List.Elements.{All-nil, All-cons, All-head, All-tail}
 use Rattle.std.proofs.lemmas.List.{append-nil}
@@ -11,8 +12,8 @@ use Rattle.sat_terms.specs.Truth.{Assignment, lit_true, clause_true}
 use Rattle.sat_terms.proofs.Literals.{neg-neg, neg-other, var_of-neg}
 use Rattle.sat_terms.proofs.Truths.{lit_true-neg}
 use Rattle.user_propagator.specs.declared.seen.Seen.{Seen}
-use Rattle.user_propagator.specs.Board.{Board, Handed, SeenTrail, IsSeenTrail, entry, seen_var, trail_value, with_handed, with_wanted}
-use Rattle.user_propagator.specs.Meaning.{Meaning, MakesTrue, Counted, IsQuiet, CalledBack, InStep, is_reached, IsFair, IsFalseOrUnit, LevelFell, asked_now, next_count}
+use Rattle.user_propagator.specs.Board.{Board, Handed, SeenTrail, IsSeenTrail, no_entry, entry, seen_var, trail_value, with_handed, with_wanted}
+use Rattle.user_propagator.specs.Meaning.{Meaning, MakesTrue, StandsAt, put_on, Counted, IsQuiet, CalledBack, InStep, is_reached, IsFair, IsFalseOrUnit, LevelFell, asked_now, next_count}
 
 -- only the count changes
 pub record IsRecounted (old new : Meaning) : Type 0 where
@@ -156,3 +157,14 @@ value_holds f (e ∷ es) l v made h =
       turned : (b : Bool) → not b ≡ true → b ≡ false
       turned true q = absurd (false≢true q)
       turned false q = refl
+
+-- a literal that is explained stands explained once it was told
+pub stands_told : (t : Meaning) (b after : Board) (l : ℕ) (decision : Bool) → after ≡ put_on b l decision → t.explains b.seen l ≡ true → (k : ℕ) × StandsAt t after.seen k l
+stands_told t b after l decision is h =
+    let e : Seen = record { lit = l; level = b.level; decision = decision } in
+    let last : entry (b.seen ++ e ∷ []) (length b.seen) ≡ e = get_or-append_seam b.seen e [] no_entry in
+    rw is (length b.seen, record {
+      inside = omega (arith, length-append b.seen (e ∷ []));
+      place = ap (λ s. s.lit) last;
+      explained = rw (take-append_seam b.seen (e ∷ []), last) h;
+    })
