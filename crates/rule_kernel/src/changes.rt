@@ -24,8 +24,9 @@ use std::marker::Model;
 // The marked variables and literals.
 #[derive(Drop)]
 pub(crate) struct Changes {
+    // The marked variables.
     vars: WorkList<Var>,
-    // There is room for both literals of each variable that there is room for.
+    // The marked literals. There is room for both literals of each variable that there is room for.
     lits: WorkList<Lit>,
 }
 

@@ -12,6 +12,8 @@ pub enum Ended {
 /// How many clauses a pass took out of the store, and how it ended.
 #[derive(Clone, Copy, Debug, PartialEq, Eq)]
 pub struct PassReport {
+    /// How many clauses it took out of the store.
     pub removed: u64,
+    /// How it ended.
     pub ended: Ended,
 }

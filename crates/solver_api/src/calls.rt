@@ -43,13 +43,13 @@ pub enum Outcome {
 /// What a solve counted.
 #[derive(Clone, Copy, Debug, PartialEq, Eq)]
 pub struct Stats {
-    /// The clauses that were analysed.
+    /// The conflicts: the false clauses that were analysed.
     pub conflicts: u64,
     /// The calls of an external propagator. There is none yet.
     pub callbacks: u64,
     /// The clauses that simplification removed. There is no simplification yet.
     pub removed: u64,
-    /// The removed clauses that were restored.
+    /// The removed clauses that were restored. There is no restoration yet.
     pub restored: u64,
 }
 
