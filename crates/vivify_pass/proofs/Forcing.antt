@@ -35,7 +35,7 @@ forced_more s id xs ys _ sub (start l i) = start l (sub l i)
 forced_more s id xs ys _ sub (unit l k ne firm' i others) = unit l k ne firm' i (λ m a b. forced_more s id xs ys (neg m) sub (others m a b))
 
 -- where a clause is false, its opposites are true
-has_negs : (c : List ℕ) (l : ℕ) → has (negs c) l ≡ true → has c (neg l) ≡ true
+pub has_negs : (c : List ℕ) (l : ℕ) → has (negs c) l ≡ true → has c (neg l) ≡ true
 has_negs [] l h = absurd (false≢true h)
 has_negs (x ∷ c) l h =
     elim (or_cases (eqb (neg x) l) (has (negs c) l) h) [

@@ -1,7 +1,9 @@
 pub mod Circling
 pub mod Forcing
+pub mod Holding
 pub mod Probing
 pub mod Setting
 pub mod Trailing
 pub mod Turning
 pub mod Resting
+pub mod Rooting

@@ -9,9 +9,10 @@ use Rattle.trail_state.specs.declared.trail.Step.{Step}
 use Rattle.trail_state.specs.Trail.{Trace, true_on, value_on, IsTrail}
 use Rattle.watch_lists.specs.Propagation.{Watching}
 use Rattle.firm_terms.specs.Vivifying.{Forced, Fails, negs, IsOpen, Stops, Vivifies, IsCalm, Calm}
-use Rattle.vivify_pass.specs.Trailing.{AllAbove, Probes, Probed}
+use Rattle.vivify_pass.specs.Trailing.{IsOver, IsSettled, Probes, Probed}
 use Rattle.vivify_pass.proofs.Trailing.{forced_on, not_both, negs_more}
-use Rattle.sat_terms.proofs.Members.{has-append_right, has-append_cases}
+use Rattle.vivify_pass.proofs.Rooting.{over_none}
+use Rattle.sat_terms.proofs.Members.{has-append_right, has-append_cases, has_at, has_place}
 use Rattle.sat_terms.specs.Normal.{IsNormal}
 
 -- nothing was found, and the trail has all that is forced
@@ -21,11 +22,6 @@ Still s id c given t = (Fails s id given → ⊥) × ((l : ℕ) → has c l ≡ 
 -- the clause is calm wherever it is cut before a place
 abbrev pub CalmBelow : List (Option Stored) → ℕ → List ℕ → ℕ → Type 0
 CalmBelow s id c i = (front back : List ℕ) (l : ℕ) → c ≡ front ++ l ∷ back → 0 < length front → length front < i → IsCalm s id c front l back
-
-pub has_read : (c : List ℕ) (i x : ℕ) → i < length c → x ≡ get_or c i x → has c x ≡ true
-has_read [] i x in' read = absurd (omega arith)
-has_read (y ∷ c) zero x in' read = or_left (eqb y x) (has c x) (eq-eqb y x (sym read))
-has_read (y ∷ c) (suc i) x in' read = or_right (eqb y x) (has c x) (has_read c i x (omega arith) read)
 
 -- a literal may stand before another in a normal clause
 pub record IsBefore (x y : ℕ) : Type 0 where
@@ -44,10 +40,10 @@ normal_push c l n h = record {
       let ei = get_or_append_left c (l ∷ []) d i il in
       elim (cases_lt j (length c)) [
         | inl less ↦ (let ej = get_or_append_left c (l ∷ []) d j less in rw (ei, ej) (record { less = n.rising i j d lt less; apart = n.apart i j d lt less }))
-        | inr ge ↦ (let ej : get_or (c ++ l ∷ []) j d ≡ l = get_or_push c l d j (omega arith) in rw (ei, ej) (h (get_or c i d) (has_read c i (get_or c i d) il (get_or_default c i d (get_or c i d) il))))
+        | inr ge ↦ (let ej : get_or (c ++ l ∷ []) j d ≡ l = get_or_push c l d j (omega arith) in rw (ei, ej) (h (get_or c i d) (has_at c i (get_or c i d) il (get_or_default c i d (get_or c i d) il))))
       ]
 
-before_at : (c : List ℕ) (i j : ℕ) → IsNormal c → i < j → j < length c → IsBefore (get_or c i 0) (get_or c j 0)
+pub before_at : (c : List ℕ) (i j : ℕ) → IsNormal c → i < j → j < length c → IsBefore (get_or c i 0) (get_or c j 0)
 before_at c i j n lt in' = record { less = n.rising i j 0 lt in'; apart = n.apart i j 0 lt in' }
 
 normal_empty : IsNormal []
@@ -55,11 +51,11 @@ normal_empty = record { rising = λ i j d lt in'. absurd (omega arith); apart = 
 
 pub record Probing (s : List (Option Stored)) (id : ℕ) (c : List ℕ) (i : ℕ) (kept : List ℕ) (w0 w : Watching) (t0 t : Trace) : Type 0 where
   pub probes : Probes s id (negs kept) w t
-  pub above : AllAbove t.steps
+  pub over : IsOver t0.steps t.steps
   pub lists : w.declared ≡ w0.declared
   pub same : w.attached ≡ w0.attached
   pub declared : t.declared ≡ t0.declared
-  pub empty : length kept ≡ 0 → t.steps ≡ []
+  pub settled : length kept ≡ 0 → IsSettled w.attached s t.steps
   pub few : length kept ≤ i
   pub still : 0 < length kept → Still s id c (negs kept) t.steps
   pub passed : (j : ℕ) → j < i → true_on t.steps (neg (get_or c j 0)) ≡ true
@@ -70,10 +66,10 @@ pub record Probing (s : List (Option Stored)) (id : ℕ) (c : List ℕ) (i : ℕ
   pub ahead : (x j : ℕ) → has kept x ≡ true → i ≤ j → j < length c → IsBefore x (get_or c j 0)
   pub within : (x : ℕ) → has kept x ≡ true → has c x ≡ true
 
-pub probing_none : (s : List (Option Stored)) (id : ℕ) (c : List ℕ) (w : Watching) (t : Trace) → IsNormal c → Probes s id [] w t → t.steps ≡ [] → Probing s id c 0 [] w w t t
-probing_none s id c w t nc h e = record {
+pub probing_none : (s : List (Option Stored)) (id : ℕ) (c : List ℕ) (w : Watching) (t : Trace) → IsNormal c → Probes s id [] w t → IsSettled w.attached s t.steps → Probing s id c 0 [] w w t t
+probing_none s id c w t nc h settled = record {
   clause = nc;
-  above = λ i lt. absurd (let n = ap length e in omega arith);
+  over = over_none t.steps;
   lists = refl;
   normal = normal_empty;
   ahead = λ x j a. absurd (false≢true a);
@@ -81,7 +77,7 @@ probing_none s id c w t nc h e = record {
   probes = h;
   same = refl;
   declared = refl;
-  empty = λ z. e;
+  settled = λ z. settled;
   few = omega arith;
   still = λ lt. absurd (omega arith);
   passed = λ j lt. absurd (omega arith);
@@ -96,23 +92,19 @@ stops_any : (s : List (Option Stored)) (id : ℕ) (c assumed rest new : List ℕ
 stops_any s id c assumed [] new x = inl x
 stops_any s id c assumed (l ∷ rest) new x = inl x
 
-nonempty : (t : List Step) (l : ℕ) → t ≡ [] → true_on t l ≡ true → ⊥
-nonempty t l e h = false≢true (rw e at h)
-
 -- a literal that is false already is left out
-pub probing_skip : (s : List (Option Stored)) (id : ℕ) (c : List ℕ) (i lit : ℕ) (kept : List ℕ) (w0 w : Watching) (t0 t : Trace) → i < length c → lit ≡ get_or c i lit → true_on t.steps (neg lit) ≡ true → Probing s id c i kept w0 w t0 t → Probing s id c (i + 1) kept w0 w t0 t
-probing_skip s id c i lit kept w0 w t0 t in' read off h =
+pub probing_skip : (s : List (Option Stored)) (id : ℕ) (c : List ℕ) (i lit : ℕ) (kept : List ℕ) (w0 w : Watching) (t0 t : Trace) → i < length c → lit ≡ get_or c i lit → 0 < length kept → true_on t.steps (neg lit) ≡ true → Probing s id c i kept w0 w t0 t → Probing s id c (i + 1) kept w0 w t0 t
+probing_skip s id c i lit kept w0 w t0 t in' read some off h =
     let at0 : get_or c i 0 ≡ lit = sym (read ∙ get_or_default c i lit 0 in') in
-    let some : 0 < length kept = elim (cases_eq (length kept) 0) [ inl z ↦ absurd (nonempty t.steps (neg lit) (h.empty z) off) | inr n ↦ omega arith ] in
     let d : drop i c ≡ lit ∷ drop (i + 1) c = drop_more c i 0 in' ∙ ap (λ (z : ℕ). z ∷ drop (i + 1) c) at0 in
     let few = h.few in
     record {
       probes = h.probes;
-      above = h.above;
+      over = h.over;
       lists = h.lists;
       same = h.same;
       declared = h.declared;
-      empty = h.empty;
+      settled = h.settled;
       few = omega arith;
       still = h.still;
       passed = λ j lt. elim (cases_lt j i) [
@@ -128,15 +120,15 @@ probing_skip s id c i lit kept w0 w t0 t in' read off h =
     }
 
 -- one that is not is assumed
-next_goes : (s : List (Option Stored)) (id : ℕ) (c : List ℕ) (i lit : ℕ) (kept : List ℕ) (w0 w : Watching) (t0 t : Trace) → i < length c → lit ≡ get_or c i lit → (true_on t.steps (neg lit) ≡ true → ⊥) → Probing s id c i kept w0 w t0 t
+next_goes : (s : List (Option Stored)) (id : ℕ) (c : List ℕ) (i lit : ℕ) (kept : List ℕ) (w0 w : Watching) (t0 t : Trace) → i < length c → lit ≡ get_or c i lit → (0 < length kept → true_on t.steps (neg lit) ≡ true → ⊥) → Probing s id c i kept w0 w t0 t
     → (new : List ℕ) → Vivifies s id c (kept ++ lit ∷ []) (drop (i + 1) c) new → Vivifies s id c [] c new
 next_goes s id c i lit kept w0 w t0 t in' read free h new x =
     let at0 : get_or c i 0 ≡ lit = sym (read ∙ get_or_default c i lit 0 in') in
     let d : drop i c ≡ lit ∷ drop (i + 1) c = drop_more c i 0 in' ∙ ap (λ (z : ℕ). z ∷ drop (i + 1) c) at0 in
-    h.goes_on new (subst (λ (z : List ℕ). Vivifies s id c kept z new) (sym d) (inr (is_open s id c i kept w0 w t0 t h, inr ((λ lt f. free ((h.still lt).2 (neg lit) f)), x))))
+    h.goes_on new (subst (λ (z : List ℕ). Vivifies s id c kept z new) (sym d) (inr (is_open s id c i kept w0 w t0 t h, inr ((λ lt f. free lt ((h.still lt).2 (neg lit) f)), x))))
 
 -- and the clause is calm where it is cut here
-next_calm : (s : List (Option Stored)) (id : ℕ) (c : List ℕ) (i lit : ℕ) (kept : List ℕ) (w0 w : Watching) (t0 t : Trace) → i < length c → lit ≡ get_or c i lit → (true_on t.steps (neg lit) ≡ true → ⊥) → Probing s id c i kept w0 w t0 t → length kept ≡ i → (kept ++ lit ∷ [] ≡ take (i + 1) c) × CalmBelow s id c (i + 1)
+next_calm : (s : List (Option Stored)) (id : ℕ) (c : List ℕ) (i lit : ℕ) (kept : List ℕ) (w0 w : Watching) (t0 t : Trace) → i < length c → lit ≡ get_or c i lit → (0 < length kept → true_on t.steps (neg lit) ≡ true → ⊥) → Probing s id c i kept w0 w t0 t → length kept ≡ i → (kept ++ lit ∷ [] ≡ take (i + 1) c) × CalmBelow s id c (i + 1)
 next_calm s id c i lit kept w0 w t0 t in' read free h e =
     let k = h.calm e in
     let at0 : get_or c i 0 ≡ lit = sym (read ∙ get_or_default c i lit 0 in') in (
@@ -152,7 +144,7 @@ next_calm s id c i lit kept w0 w t0 t in' read free h e =
                 let st = h.still some in
                 subst (λ (z : List ℕ). IsCalm s id c z l back) f (record {
                   stands = st.0;
-                  free = λ x. free (subst (λ (z : ℕ). true_on t.steps (neg z) ≡ true) is (st.2 (neg l) x));
+                  free = λ x. free some (subst (λ (z : ℕ). true_on t.steps (neg z) ≡ true) is (st.2 (neg l) x));
                   open_yet = λ p m q x. st.1 m q x;
                 }))
           ],
@@ -189,25 +181,25 @@ next_within s id c i lit kept w0 w t0 t in' read h x a =
       | inl b ↦ h.within x b
       | inr b ↦
           elim (or_cases (eqb lit x) false b) [
-            | inl e ↦ subst (λ (z : ℕ). has c z ≡ true) (eqb-true lit x e) (has_read c i lit in' read)
+            | inl e ↦ subst (λ (z : ℕ). has c z ≡ true) (eqb-true lit x e) (has_at c i lit in' read)
             | inr f ↦ absurd (false≢true f)
           ]
     ]
 
-pub probing_assume : (s : List (Option Stored)) (id : ℕ) (c : List ℕ) (i lit : ℕ) (kept : List ℕ) (w0 w w' : Watching) (t0 t t' : Trace) → i < length c → lit ≡ get_or c i lit → (true_on t.steps (neg lit) ≡ true → ⊥) → Probing s id c i kept w0 w t0 t
-    → w'.attached ≡ w.attached → t'.declared ≡ t.declared → Probes s id (negs (kept ++ lit ∷ [])) w' t' → ((l : ℕ) → true_on t.steps l ≡ true → true_on t'.steps l ≡ true) → Still s id c (negs (kept ++ lit ∷ [])) t'.steps → (AllAbove t.steps → AllAbove t'.steps) → w'.declared ≡ w.declared
+pub probing_assume : (s : List (Option Stored)) (id : ℕ) (c : List ℕ) (i lit : ℕ) (kept : List ℕ) (w0 w w' : Watching) (t0 t t' : Trace) → i < length c → lit ≡ get_or c i lit → (0 < length kept → true_on t.steps (neg lit) ≡ true → ⊥) → Probing s id c i kept w0 w t0 t
+    → w'.attached ≡ w.attached → t'.declared ≡ t.declared → Probes s id (negs (kept ++ lit ∷ [])) w' t' → ((l : ℕ) → true_on t.steps l ≡ true → true_on t'.steps l ≡ true) → Still s id c (negs (kept ++ lit ∷ [])) t'.steps → ((root : List Step) → IsOver root t.steps → IsOver root t'.steps) → w'.declared ≡ w.declared
     → Probing s id c (i + 1) (kept ++ lit ∷ []) w0 w' t0 t'
-probing_assume s id c i lit kept w0 w w' t0 t t' in' read free h ew ed probes longer still above lists =
+probing_assume s id c i lit kept w0 w w' t0 t t' in' read free h ew ed probes longer still over lists =
     let at0 : get_or c i 0 ≡ lit = sym (read ∙ get_or_default c i lit 0 in') in
     let lk = length_push kept lit in
     let few = h.few in
     record {
       probes = probes;
-      above = above h.above;
+      over = over t0.steps h.over;
       lists = lists ∙ h.lists;
       same = ew ∙ h.same;
       declared = ed ∙ h.declared;
-      empty = λ z. absurd (omega arith);
+      settled = λ z. absurd (omega arith);
       few = omega arith;
       still = λ lt. still;
       passed = λ j lt. elim (cases_lt j i) [
@@ -222,28 +214,15 @@ probing_assume s id c i lit kept w0 w w' t0 t t' in' read free h ew ed probes lo
       within = next_within s id c i lit kept w0 w t0 t in' read h;
     }
 
--- a literal of the clause has a place there
-has_place : (xs : List ℕ) (x : ℕ) → has xs x ≡ true → (i : ℕ) × (i < length xs) × (get_or xs i 0 ≡ x)
-has_place [] x h = absurd (false≢true h)
-has_place (y ∷ xs) x h =
-    elim (or_cases (eqb y x) (has xs x) h) [
-      | inl e ↦ (0, omega arith, eqb-true y x e)
-      | inr t ↦ (let r = has_place xs x t in (suc r.0, omega (arith, r.1), r.2))
-    ]
-
 -- a literal that is neither true nor false
-pub free_at : (s : List (Option Stored)) (id : ℕ) (c : List ℕ) (i lit : ℕ) (kept : List ℕ) (w0 w : Watching) (t0 t : Trace) → i < length c → lit ≡ get_or c i lit → true_on t.steps (neg lit) ≡ false → Probing s id c i kept w0 w t0 t → value_on t.steps (neg lit) ≡ None
-free_at s id c i lit kept w0 w t0 t in' read off h =
-    let off' : true_on t.steps (neg (neg lit)) ≡ false = false_from_ne_true (true_on t.steps (neg (neg lit))) (λ on.
-    let on' : true_on t.steps lit ≡ true = subst (λ (z : ℕ). true_on t.steps z ≡ true) (neg-neg lit) on in
-    elim (cases_eq (length kept) 0) [
-      | inl z ↦ nonempty t.steps lit (h.empty z) on'
-      | inr n ↦ (h.still (omega arith)).1 lit (has_read c i lit in' read) (forced_on s id (negs kept) t.steps lit h.probes.forced on')
-    ]) in
-    rw (off, off') refl
+pub free_at : (s : List (Option Stored)) (id : ℕ) (c : List ℕ) (i lit : ℕ) (kept : List ℕ) (w0 w : Watching) (t0 t : Trace) → i < length c → lit ≡ get_or c i lit → (0 < length kept → true_on t.steps (neg lit) ≡ true → ⊥) → Probing s id c i kept w0 w t0 t → 0 < length kept → value_on t.steps lit ≡ None
+free_at s id c i lit kept w0 w t0 t in' read free h some =
+    let off : true_on t.steps (neg lit) ≡ false = false_from_ne_true (true_on t.steps (neg lit)) (free some) in
+    let on : true_on t.steps lit ≡ false = false_from_ne_true (true_on t.steps lit) (λ y. (h.still some).1 lit (has_at c i lit in' read) (forced_on s id (negs kept) t.steps lit h.probes.forced y)) in
+    rw (off, on) refl
 
 -- the ends
-pub probed_false : (s : List (Option Stored)) (id : ℕ) (c : List ℕ) (i lit : ℕ) (kept : List ℕ) (w0 w : Watching) (t0 t : Trace) → i < length c → lit ≡ get_or c i lit → (true_on t.steps (neg lit) ≡ true → ⊥) → Probing s id c i kept w0 w t0 t → Fails s id (negs (kept ++ lit ∷ [])) → Probed s id c (kept ++ lit ∷ [])
+pub probed_false : (s : List (Option Stored)) (id : ℕ) (c : List ℕ) (i lit : ℕ) (kept : List ℕ) (w0 w : Watching) (t0 t : Trace) → i < length c → lit ≡ get_or c i lit → (0 < length kept → true_on t.steps (neg lit) ≡ true → ⊥) → Probing s id c i kept w0 w t0 t → Fails s id (negs (kept ++ lit ∷ [])) → Probed s id c (kept ++ lit ∷ [])
 probed_false s id c i lit kept w0 w t0 t in' read free h fails =
     let lk = length_push kept lit in
     let few = h.few in
@@ -255,7 +234,7 @@ probed_false s id c i lit kept w0 w t0 t in' read free h fails =
       within = next_within s id c i lit kept w0 w t0 t in' read h;
     }
 
-pub probed_true : (s : List (Option Stored)) (id : ℕ) (c : List ℕ) (i lit m top : ℕ) (kept : List ℕ) (w0 w w' : Watching) (t0 t t' : Trace) → i < length c → lit ≡ get_or c i lit → (true_on t.steps (neg lit) ≡ true → ⊥) → Probing s id c i kept w0 w t0 t
+pub probed_true : (s : List (Option Stored)) (id : ℕ) (c : List ℕ) (i lit m top : ℕ) (kept : List ℕ) (w0 w w' : Watching) (t0 t t' : Trace) → i < length c → lit ≡ get_or c i lit → (0 < length kept → true_on t.steps (neg lit) ≡ true → ⊥) → Probing s id c i kept w0 w t0 t
     → Probes s id (negs (kept ++ lit ∷ [])) w' t' → ((l : ℕ) → true_on t.steps l ≡ true → true_on t'.steps l ≡ true) → IsTrail t'.steps top
     → (Fails s id (negs (kept ++ lit ∷ [])) → ⊥) × (has c m ≡ true) × (true_on t'.steps m ≡ true) × ((l : ℕ) → Forced s id (negs (kept ++ lit ∷ [])) l → true_on t'.steps l ≡ true)
     → Probed s id c ((kept ++ lit ∷ []) ++ m ∷ [])
@@ -264,7 +243,7 @@ probed_true s id c i lit m top kept w0 w w' t0 t t' in' read free h probes longe
     let lm = length_push (kept ++ lit ∷ []) m in
     let few = h.few in
     let at0 : get_or c i 0 ≡ lit = sym (read ∙ get_or_default c i lit 0 in') in
-    let j = has_place c m look.1 in
+    let j = has_place c m 0 look.1 in
     let later : i < j.0 = elim (cases_lt i j.0) [
       | inl lt ↦ lt
       | inr ge ↦

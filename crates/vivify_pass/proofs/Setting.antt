@@ -5,6 +5,7 @@ use Rattle.std.proofs.lemmas.List.{get_or-take, get_or_default, length-take-le, 
 use Rattle.std.proofs.lemmas.List.Folds.{list_any_more}
 use Rattle.sat_terms.specs.Limits.{max_var}
 use Rattle.sat_terms.specs.Literal.{has, var_of}
+use Rattle.sat_terms.proofs.Members.{has_item, has_place}
 use Rattle.sat_terms.specs.Answer.{Within}
 use Rattle.clause_store.specs.Stored.{Stored, slot, slot_lits, is_firm}
 use Rattle.clause_store.specs.Listing.{HasEachOnce, firm_at}
@@ -43,19 +44,11 @@ attaching_none s ids w e = record { attached = λ k. rw e refl; declared = refl;
 has_one_more : (w : List ℕ) (i x l : ℕ) → i < length w → x ≡ get_or w i x → has (take (i + 1) w) l ≡ (has (take i w) l || eqb x l)
 has_one_more w i x l in' is = list_any_more (λ y. eqb y l) w i x in' ∙ rw (← is) refl
 
-place : (xs : List ℕ) (x : ℕ) → has xs x ≡ true → (i : ℕ) × (i < length xs) × (get_or xs i 0 ≡ x)
-place [] x h = absurd (false≢true h)
-place (y ∷ xs) x h =
-    elim (or_cases (eqb y x) (has xs x) h) [
-      | inl e ↦ (0, omega arith, eqb-true y x e)
-      | inr t ↦ (let r = place xs x t in (suc r.0, omega (arith, r.1), r.2))
-    ]
-
 pub attach_fresh : (s : List (Option Stored)) (ids : List ℕ) (i id : ℕ) (old new : Watching) → HasEachOnce (firm_at s) ids → i < length ids → id ≡ get_or ids i id → Attaching s ids i old new → has new.attached id ≡ false
 attach_fresh s ids i id old new each in' read h =
     let at0 : id ≡ get_or ids i 0 = read ∙ get_or_default ids i id 0 in' in
     h.attached id ∙ false_from_ne_true (has (take i ids) id) (λ y.
-    let p = place (take i ids) id y in
+    let p = has_place (take i ids) id 0 y in
     let l = length-take-le i ids (omega arith) in
     let b = p.1 in
     let lt : p.0 < i = omega arith in
@@ -101,14 +94,10 @@ covered_all s ids i m each le h k f =
 -- all is set up
 pub set_up_ready : (s : List (Option Stored)) (ids : List ℕ) (w w' : Watching) (t : Trace) → HasEachOnce (firm_at s) ids → ((k : ℕ) → has w'.attached k ≡ has ids k) → ((k : ℕ) → is_firm (slot s k) ≡ true → Within t.declared (slot_lits (slot s k))) → t.declared ≤ w'.declared → Follows w' s t → t.steps ≡ [] → Ready s w' t
 set_up_ready s ids w w' t each att known le follows empty = record {
-  sound = λ k i. (let p = place ids k (sym (att k) ∙ i) in subst (λ (z : ℕ). is_firm (slot s z) ≡ true) p.2 (listed (firm_at s) ids p.0 each p.1));
-  whole = λ k f. att k ∙ (let p = place_of (firm_at s) ids k each f in subst (λ (z : ℕ). has ids z ≡ true) p.2 (at_place ids p.0 p.1));
+  sound = λ k i. (let p = has_place ids k 0 (sym (att k) ∙ i) in subst (λ (z : ℕ). is_firm (slot s z) ≡ true) p.2 (listed (firm_at s) ids p.0 each p.1));
+  whole = λ k f. att k ∙ (let p = place_of (firm_at s) ids k each f in subst (λ (z : ℕ). has ids z ≡ true) p.2 (has_item ids p.0 0 p.1));
   known = known;
   lists = le;
   follows = follows;
-  empty = empty;
-} where
-  at_place : (c : List ℕ) (k : ℕ) → k < length c → has c (get_or c k 0) ≡ true
-  at_place [] k lt = absurd (omega arith)
-  at_place (y ∷ c) zero lt = or_left (eqb y y) (has c y) (eq-eqb y y refl)
-  at_place (y ∷ c) (suc k) lt = or_right (eqb y (get_or c k 0)) (has c (get_or c k 0)) (at_place c k (omega arith))
+  rooted = λ i lt. absurd (let n = ap length empty in omega arith);
+}

@@ -1,11 +1,11 @@
 -- The trail and what unit propagation makes true are the same.
 use Rattle.std.proofs.Common.{◌≡◌, ◌≢◌, ℕ, suc, zero, ◌<◌, ◌≤◌, Bool, true, false, eqb, List, [], ◌∷◌, ◌++◌, length, get_or, cond, take, Option, Some, None, inl, inr, refl, sym, ap, ◌∙◌, subst, arith}
 use Rattle.std.proofs.lemmas.Bool.{false≢true, cases_Bool, cases_eq, cases_lt, or_cases, or_left, eqb-true, eq-eqb}
-use Rattle.std.proofs.lemmas.List.{get_or_append_left, get_or-take, length-take-le, length-append, length_push}
+use Rattle.std.proofs.lemmas.List.{get_or_append_left, get_or-take, length-take-le, length-append, length_push, append_assoc}
 use Rattle.sat_terms.proofs.Members.{has-append_left, has-append_right, has-append_cases}
 use Rattle.sat_terms.specs.Literal.{has, neg, var_of}
-use Rattle.sat_terms.proofs.Literals.{neg-other, var_of-neg}
-use Rattle.clause_store.specs.Stored.{Stored, slot, slot_lits}
+use Rattle.sat_terms.proofs.Literals.{neg-neg, neg-other, var_of-neg}
+use Rattle.clause_store.specs.Stored.{Stored, slot, slot_lits, is_firm}
 use Rattle.trail_state.specs.declared.trail.Step.{Step}
 use Rattle.trail_state.specs.Trail.{Trace, step, no_step, true_on, value_on, IsTrail}
 use Rattle.trail_state.specs.Clauses.{FalseOn}
@@ -14,7 +14,7 @@ use Rattle.trail_state.proofs.Changes.{step_old, step_new, old_or_new}
 use Rattle.watch_lists.specs.Propagation.{Watching, Follows, Grown, AllQuiet}
 use Rattle.firm_terms.specs.Vivifying.{Forced, Fails, negs}
 use Rattle.firm_terms.specs.Vivifying.Forced.{start, unit}
-use Rattle.vivify_pass.specs.Trailing.{AreOthers, AreForced, AreTrue, Probes, AllAbove}
+use Rattle.vivify_pass.specs.Trailing.{AreOthers, AreForced, AreTrue, Probes, IsOver}
 use Rattle.vivify_pass.proofs.Forcing.{forced_more}
 
 -- what is true on the trail is forced
@@ -73,12 +73,16 @@ grown_true s given ids old new g h l i =
       longer : (k : ℕ) → k < length old.steps → k < length new.steps
       longer k lt = let n = ap length g.steps in let m = length-append old.steps g.tail in omega arith
 
+-- the ids have the firm clauses but one
+abbrev pub HasOthers : List (Option Stored) → ℕ → List ℕ → Type 0
+HasOthers s id ids = (k : ℕ) → k ≢ id → is_firm (slot s k) ≡ true → has ids k ≡ true
+
 -- where propagation is done, each forced literal is true on the trail
-pub closed : (s : List (Option Stored)) (id : ℕ) (given ids : List ℕ) (t : List Step) (l : ℕ) → AreOthers s id ids → AllQuiet ids s t → AreTrue given t → Forced s id given l → true_on t l ≡ true
-closed s id given ids t _ others quiet g (start l i) = g l i
-closed s id given ids t _ others quiet g (unit l k ne firm' i rest) =
-    let q = quiet k (others.whole k ne firm') in
-    let side : (m : ℕ) → has (slot_lits (slot s k)) m ≡ true → m ≢ l → true_on t (neg m) ≡ true = λ m a n. closed s id given ids t (neg m) others quiet g (rest m a n) in
+pub closed : (s : List (Option Stored)) (id : ℕ) (given ids : List ℕ) (t : List Step) (l : ℕ) → HasOthers s id ids → AllQuiet ids s t → AreTrue given t → Forced s id given l → true_on t l ≡ true
+closed s id given ids t _ whole quiet g (start l i) = g l i
+closed s id given ids t _ whole quiet g (unit l k ne firm' i rest) =
+    let q = quiet k (whole k ne firm') in
+    let side : (m : ℕ) → has (slot_lits (slot s k)) m ≡ true → m ≢ l → true_on t (neg m) ≡ true = λ m a n. closed s id given ids t (neg m) whole quiet g (rest m a n) in
     elim (cases_Bool (true_on t l)) [
       | inl y ↦ y
       | inr n ↦
@@ -88,9 +92,9 @@ closed s id given ids t _ others quiet g (unit l k ne firm' i rest) =
           ]
     ]
 
-pub never_fails : (s : List (Option Stored)) (id : ℕ) (given ids : List ℕ) (t : List Step) → AreOthers s id ids → AllQuiet ids s t → AreTrue given t → Fails s id given → ⊥
-never_fails s id given ids t others quiet g x =
-    (quiet x.0 (others.whole x.0 x.1 x.2)).not_false (λ m a. closed s id given ids t (neg m) others quiet g (x.3 m a))
+pub never_fails : (s : List (Option Stored)) (id : ℕ) (given ids : List ℕ) (t : List Step) → HasOthers s id ids → AllQuiet ids s t → AreTrue given t → Fails s id given → ⊥
+never_fails s id given ids t whole quiet g x =
+    (quiet x.0 (whole x.0 x.1 x.2)).not_false (λ m a. closed s id given ids t (neg m) whole quiet g (x.3 m a))
 
 -- a false clause
 pub conflict_fails : (s : List (Option Stored)) (id : ℕ) (given ids : List ℕ) (t : List Step) (k : ℕ) → AreOthers s id ids → AreForced s id given t → has ids k ≡ true → FalseOn t (slot_lits (slot s k)) → Fails s id given
@@ -126,12 +130,12 @@ longer_true s ids t u v x l eu g h =
 
 pub looked_true : (s : List (Option Stored)) (id : ℕ) (given ids c : List ℕ) (t : List Step) (l : ℕ) → AreOthers s id ids → AllQuiet ids s t → AreTrue given t → has c l ≡ true → true_on t l ≡ true
     → (Fails s id given → ⊥) × (has c l ≡ true) × (true_on t l ≡ true) × ((m : ℕ) → Forced s id given m → true_on t m ≡ true)
-looked_true s id given ids c t l others quiet g i on = (never_fails s id given ids t others quiet g, i, on, λ m x. closed s id given ids t m others quiet g x)
+looked_true s id given ids c t l others quiet g i on = (never_fails s id given ids t others.whole quiet g, i, on, λ m x. closed s id given ids t m others.whole quiet g x)
 
 pub looked_open : (s : List (Option Stored)) (id : ℕ) (given ids c : List ℕ) (t : List Step) → AreOthers s id ids → AllQuiet ids s t → AreTrue given t → ((l : ℕ) → has c l ≡ true → true_on t l ≡ true → ⊥)
     → (Fails s id given → ⊥) × ((l : ℕ) → has c l ≡ true → Forced s id given l → ⊥) × ((l : ℕ) → Forced s id given l → true_on t l ≡ true)
 looked_open s id given ids c t others quiet g off =
-    (never_fails s id given ids t others quiet g, (λ l i x. off l i (closed s id given ids t l others quiet g x)), λ l x. closed s id given ids t l others quiet g x)
+    (never_fails s id given ids t others.whole quiet g, (λ l i x. off l i (closed s id given ids t l others.whole quiet g x)), λ l x. closed s id given ids t l others.whole quiet g x)
 
 -- reading the trail
 pub true_value : (t : List Step) (l : ℕ) → value_on t l ≡ Some true → true_on t l ≡ true
@@ -163,16 +167,76 @@ not_both t top l shape a b =
     let e = shape.apart p.0 q.0 p.1 q.1 (ap var_of p.2 ∙ sym (var_of-neg l) ∙ ap var_of (sym q.2)) in
     neg-other l (sym q.2 ∙ ap (λ (z : ℕ). (step t z).lit) (sym e) ∙ p.2)
 
-pub above_more : (s : List (Option Stored)) (ids : List ℕ) (t u v : Trace) (x : Step) → u.steps ≡ t.steps ++ x ∷ [] → 0 < x.level → u.level ≡ x.level → Grown ids s u v → AllAbove t.steps → AllAbove v.steps
-above_more s ids t u v x eu lx lu g h i lt =
-    elim (cases_lt i (length u.steps)) [
-      | inl less ↦
-          (let e : step v.steps i ≡ step u.steps i = ap (λ (z : List Step). step z i) g.steps ∙ get_or_append_left u.steps g.tail no_step i less in
-          let f : step u.steps i ≡ step (t.steps ++ x ∷ []) i = ap (λ (z : List Step). step z i) eu in
-          let less' : i < length (t.steps ++ x ∷ []) = (let n = ap length eu in omega arith) in
-          elim (old_or_new t.steps x i less') [
-            | inl a ↦ (let k = e ∙ f ∙ step_old t.steps x i a in subst (λ (z : Step). 0 < z.level) (sym k) (h i a))
-            | inr a ↦ (let k : step v.steps i ≡ x = e ∙ f ∙ ap (step (t.steps ++ x ∷ [])) a ∙ step_new t.steps x in subst (λ (z : Step). 0 < z.level) (sym k) lx)
-          ])
-      | inr ge ↦ (let st = (g.implied i ge lt).stands in omega arith)
+-- what is assumed and follows stands above the root
+pub over_more : (root : List Step) (s : List (Option Stored)) (ids : List ℕ) (t u v : Trace) (x : Step) → u.steps ≡ t.steps ++ x ∷ [] → 0 < x.level → u.level ≡ x.level → Grown ids s u v → IsOver root t.steps → IsOver root v.steps
+over_more root s ids t u v x eu lx lu g h = record {
+  tail = (h.tail ++ x ∷ []) ++ g.tail;
+  steps = g.steps ∙ ap (λ (z : List Step). z ++ g.tail) (eu ∙ ap (λ (z : List Step). z ++ x ∷ []) h.steps ∙ append_assoc root h.tail (x ∷ [])) ∙ append_assoc root (h.tail ++ x ∷ []) g.tail;
+  above = λ i le lt.
+      elim (cases_lt i (length u.steps)) [
+        | inl less ↦
+            (let e : step v.steps i ≡ step u.steps i = ap (λ (z : List Step). step z i) g.steps ∙ get_or_append_left u.steps g.tail no_step i less in
+            let f : step u.steps i ≡ step (t.steps ++ x ∷ []) i = ap (λ (z : List Step). step z i) eu in
+            let less' : i < length (t.steps ++ x ∷ []) = (let n = ap length eu in omega arith) in
+            elim (old_or_new t.steps x i less') [
+              | inl a ↦ (let k = e ∙ f ∙ step_old t.steps x i a in subst (λ (z : Step). 0 < z.level) (sym k) (h.above i le a))
+              | inr a ↦ (let k : step v.steps i ≡ x = e ∙ f ∙ ap (step (t.steps ++ x ∷ [])) a ∙ step_new t.steps x in subst (λ (z : Step). 0 < z.level) (sym k) lx)
+            ])
+        | inr ge ↦ (let st = (g.implied i ge lt).stands in omega arith)
+      ];
+}
+
+-- a literal without a value has a negation without one
+pub value_neg : (t : List Step) (l : ℕ) → value_on t l ≡ None → value_on t (neg l) ≡ None
+value_neg t l e = ap (λ (z : ℕ). cond (true_on t (neg l)) (Some true) (cond (true_on t z) (Some false) None)) (neg-neg l) ∙ turned (true_on t l) (true_on t (neg l)) e where
+  turned : (a b : Bool) → cond a (Some true) (cond b (Some false) None) ≡ None → cond b (Some true) (cond a (Some false) None) ≡ None
+  turned true b e = absurd (let f : Some true ≡ None = e in cc)
+  turned false true e = absurd (let f : Some false ≡ None = e in cc)
+  turned false false e = refl
+
+pub false_value : (t : List Step) (l : ℕ) → value_on t l ≡ Some false → true_on t (neg l) ≡ true
+false_value t l e = go (true_on t l) (true_on t (neg l)) e where
+  go : (a b : Bool) → cond a (Some true) (cond b (Some false) None) ≡ Some false → b ≡ true
+  go true b e = absurd (let f : Some true ≡ Some false = e in cc)
+  go false true e = refl
+  go false false e = absurd (let f : None ≡ Some false = e in cc)
+
+-- where a literal is forced by nothing, a clause is false once it is assumed false
+pub forced_fails : (s : List (Option Stored)) (id : ℕ) (given : List ℕ) (l : ℕ) → has given (neg l) ≡ true → Forced s id [] l → Fails s id given
+forced_fails s id given _ i (start l none) = absurd (false≢true none)
+forced_fails s id given _ i (unit l k ne firm' a others) =
+    (k, ne, firm', λ m b.
+    elim (cases_eq m l) [
+      | inl e ↦ start (neg m) (subst (λ (z : ℕ). has given (neg z) ≡ true) (sym e) i)
+      | inr d ↦ forced_more s id [] given (neg m) (λ n x. absurd (false≢true x)) (others m b d)
+    ])
+
+no_length : (c : List ℕ) → length c ≡ 0 → c ≡ []
+no_length [] h = refl
+no_length (x ∷ c) h = absurd (omega arith)
+
+-- The first literal is assumed: it is true on the trail, or false.
+pub first_fails : (s : List (Option Stored)) (id : ℕ) (kept : List ℕ) (lit : ℕ) (w : Watching) (t : Trace) → length kept ≡ 0 → Probes s id (negs kept) w t → true_on t.steps lit ≡ true → Fails s id (negs (kept ++ lit ∷ []))
+first_fails s id kept lit w t z h on =
+    let e = no_length kept z in
+    let f : Forced s id [] lit = subst (λ (c : List ℕ). Forced s id (negs c) lit) e (forced_on s id (negs kept) t.steps lit h.forced on) in
+    subst (λ (c : List ℕ). Fails s id (negs (c ++ lit ∷ []))) (sym e) (forced_fails s id (neg lit ∷ []) lit (or_left (eqb (neg lit) (neg lit)) false (eq-eqb (neg lit) (neg lit) refl)) f)
+
+pub first_probes : (s : List (Option Stored)) (id : ℕ) (kept : List ℕ) (lit : ℕ) (w : Watching) (t : Trace) → length kept ≡ 0 → Probes s id (negs kept) w t → true_on t.steps (neg lit) ≡ true → Probes s id (negs (kept ++ lit ∷ [])) w t
+first_probes s id kept lit w t z h on =
+    let e = no_length kept z in
+    let f : AreForced s id [] t.steps = subst (λ (c : List ℕ). AreForced s id (negs c) t.steps) e h.forced in
+    subst (λ (c : List ℕ). Probes s id (negs (c ++ lit ∷ [])) w t) (sym e) (record {
+      others = h.others;
+      ready = h.ready;
+      follows = h.follows;
+      forced = λ i lt. forced_more s id [] (neg lit ∷ []) (step t.steps i).lit (λ n x. absurd (false≢true x)) (f i lt);
+      given_true = λ l i. elim (or_cases (eqb (neg lit) l) false i) [ inl x ↦ subst (λ (y : ℕ). true_on t.steps y ≡ true) (eqb-true (neg lit) l x) on | inr x ↦ absurd (false≢true x) ];
+    })
+
+pub empty_where_valued : (t : List Step) (l : ℕ) (b : Bool) (kept : List ℕ) → value_on t l ≡ Some b → (0 < length kept → value_on t l ≡ None) → length kept ≡ 0
+empty_where_valued t l b kept is free =
+    elim (cases_eq (length kept) 0) [
+      | inl z ↦ z
+      | inr n ↦ absurd (let f : Some b ≡ None = sym is ∙ free (omega arith) in cc)
     ]

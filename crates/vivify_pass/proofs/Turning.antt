@@ -1,8 +1,9 @@
 -- Laws of the rule on one clause of a kernel.
-use Rattle.std.proofs.Common.{◌≡◌, ◌≢◌, ℕ, suc, zero, ◌<◌, ◌≤◌, true, false, not, eqb, ◌&&◌, ◌||◌, List, [], ◌∷◌, length, get_or, take, Option, Some, None, inl, inr, refl, sym, ap, ◌∙◌, subst, arith}
+use Rattle.std.proofs.Common.{◌≡◌, ◌≢◌, ℕ, suc, zero, ◌<◌, ◌≤◌, true, false, not, eqb, ◌&&◌, ◌||◌, List, [], ◌∷◌, ◌++◌, length, get_or, take, Option, Some, None, inl, inr, refl, sym, ap, ◌∙◌, subst, arith}
 use Rattle.std.proofs.lemmas.Bool.{false≢true, cases_eq, and_parts, and_from, or_cases, or_left, or_right, eqb-true, eq-eqb, ne_eqb, false_from_ne_true}
 use Rattle.sat_terms.specs.Literal.{has, neg, var_of}
 use Rattle.sat_terms.proofs.Literals.{var_of-neg}
+use Rattle.sat_terms.proofs.Members.{has_item, has_place}
 use Rattle.sat_terms.specs.Answer.{Within}
 use Rattle.sat_terms.specs.Truth.{clause_true, Implies}
 use Rattle.sat_terms.proofs.Truths.{clause_true-from, clause_true-some}
@@ -15,10 +16,13 @@ use Rattle.pass_terms.specs.Ruled.{IsKnown, Ruled, always}
 use Rattle.pass_terms.specs.Ruled.Uses.{implied, dropped}
 use Rattle.pass_terms.specs.Ruled.Ruled.{none, more}
 use Rattle.firm_terms.proofs.Standing.{stands_from, mentions_lit, lit_of}
-use Rattle.trail_state.specs.Trail.{Trace, IsBack}
-use Rattle.watch_lists.specs.Propagation.{Watching, Follows}
-use Rattle.vivify_pass.specs.Trailing.{AreOthers, AllAbove, Probes, Ready}
+use Rattle.trail_state.specs.declared.trail.Step.{Step}
+use Rattle.trail_state.specs.Trail.{Trace}
+use Rattle.trail_state.specs.Clauses.{IsReason}
+use Rattle.watch_lists.specs.Propagation.{Watching, Follows, Grown}
+use Rattle.vivify_pass.specs.Trailing.{AreOthers, NoneRests, KeepsRoot, IsSettled, Probes, Ready}
 use Rattle.vivify_pass.specs.Turning.{Shortens}
+use Rattle.vivify_pass.proofs.Rooting.{rooted_forced, rooted_back, rooted_more, rooted_grown, quiet_fewer}
 use Rattle.firm_terms.proofs.Summing.{sum_filled, sum_freed, firm_size_is}
 
 -- the lists without a clause
@@ -30,24 +34,31 @@ others_of s w w' t id h e = record {
   whole = λ k ne f. e k ∙ and_from (has w.attached k) (not (eqb k id)) (h.whole k f) (ap not (ne_eqb k id ne));
 }
 
-pub probes_start : (s : List (Option Stored)) (w w' : Watching) (t : Trace) (id : ℕ) → Ready s w t → ((k : ℕ) → has w'.attached k ≡ (has w.attached k && not (eqb k id))) → Follows w' s t → Probes s id [] w' t
-probes_start s w w' t id h e f =
+pub probes_start : (s : List (Option Stored)) (w w' : Watching) (t : Trace) (id : ℕ) → Ready s w t → ((k : ℕ) → has w'.attached k ≡ (has w.attached k && not (eqb k id))) → Follows w' s t → NoneRests (slot_lits (slot s id)) t.steps → Probes s id [] w' t
+probes_start s w w' t id h e f rests =
     let o = others_of s w w' t id h e in
     record {
       others = o;
       ready = λ k i. (live_from_firm (slot s k) (o.sound k i).1, h.known k (o.sound k i).1);
       follows = f;
-      forced = λ i lt. absurd (let n = ap length h.empty in omega arith);
+      forced = rooted_forced s id (slot_lits (slot s id)) w.attached w'.attached t.steps o e refl h.rooted rests;
       given_true = λ l i. absurd (false≢true i);
     }
 
--- the trail is empty again
-pub back_empty : (t u : Trace) → AllAbove t.steps → IsBack t u 0 → u.steps ≡ []
-back_empty t u h b =
-    elim (cases_eq b.kept 0) [
-      | inl z ↦ b.steps ∙ ap (λ (n : ℕ). take n t.steps) z
-      | inr n ↦ absurd (let w = b.within in let l = b.low 0 (omega arith) in let a = h 0 (omega arith) in omega arith)
-    ]
+-- propagation at the root
+pub ready_settled : (s : List (Option Stored)) (w w' : Watching) (t t' : Trace) → Ready s w t → w'.attached ≡ w.attached → w'.declared ≡ w.declared → Follows w' s t' → Grown w.attached s t t' → Ready s w' t'
+ready_settled s w w' t t' h ew dw follows g = record {
+  sound = rw ew h.sound;
+  whole = rw ew h.whole;
+  known = rw g.declared h.known;
+  lists = let l = h.lists in let d = g.declared in omega arith;
+  follows = follows;
+  rooted = rw ew (rooted_grown s w.attached t t' h.rooted g);
+}
+
+-- nothing more follows from fewer clauses
+pub settled_others : (s : List (Option Stored)) (w w' : Watching) (t : List Step) (id : ℕ) → ((k : ℕ) → has w'.attached k ≡ (has w.attached k && not (eqb k id))) → IsSettled w.attached s t → IsSettled w'.attached s t
+settled_others s w w' t id e h l on = quiet_fewer s w.attached w'.attached t (λ k i. (and_parts (has w.attached k) (not (eqb k id)) (sym (e k) ∙ i)).0) (h l on)
 
 pub no_more_id : (w w' : Watching) (id : ℕ) → ((k : ℕ) → has w'.attached k ≡ (has w.attached k && not (eqb k id))) → has w'.attached id ≡ false
 no_more_id w w' id e =
@@ -56,26 +67,14 @@ no_more_id w w' id e =
 within_of : (n : ℕ) (c d : List ℕ) → ((l : ℕ) → has c l ≡ true → has d l ≡ true) → Within n d → Within n c
 within_of n c d sub h k e lt =
     let x = get_or c k e in
-    let i = sub x (at_place c k e lt) in
-    let p = place d x i in
-    subst (λ (z : ℕ). (1 ≤ var_of z) × (var_of z ≤ n)) p.2 (h p.0 0 p.1) where
-      at_place : (c : List ℕ) (k e : ℕ) → k < length c → has c (get_or c k e) ≡ true
-      at_place [] k e lt = absurd (omega arith)
-      at_place (y ∷ c) zero e lt = or_left (eqb y y) (has c y) (eq-eqb y y refl)
-      at_place (y ∷ c) (suc k) e lt = or_right (eqb y (get_or c k e)) (has c (get_or c k e)) (at_place c k e (omega arith))
-
-      place : (xs : List ℕ) (x : ℕ) → has xs x ≡ true → (i : ℕ) × (i < length xs) × (get_or xs i 0 ≡ x)
-      place [] x h = absurd (false≢true h)
-      place (y ∷ xs) x h =
-          elim (or_cases (eqb y x) (has xs x) h) [
-            | inl e ↦ (0, omega arith, eqb-true y x e)
-            | inr t ↦ (let r = place xs x t in (suc r.0, omega (arith, r.1), r.2))
-          ]
+    let i = sub x (has_item c k e lt) in
+    let p = has_place d x 0 i in
+    subst (λ (z : ℕ). (1 ≤ var_of z) × (var_of z ≤ n)) p.2 (h p.0 0 p.1)
 
 -- the lists with the clause again
 pub ready_same : (s : List (Option Stored)) (w w' w'' : Watching) (t u : Trace) (id : ℕ) → Ready s w t → is_firm (slot s id) ≡ true → ((k : ℕ) → has w'.attached k ≡ (has w.attached k && not (eqb k id))) → ((k : ℕ) → has w''.attached k ≡ (has w'.attached k || eqb id k))
-    → w''.declared ≡ w.declared → u.declared ≡ t.declared → u.steps ≡ [] → Follows w'' s u → Ready s w'' u
-ready_same s w w' w'' t u id h firm' e f dw dt empty follows = record {
+    → w''.declared ≡ w.declared → u.declared ≡ t.declared → (tail : List Step) → t.steps ≡ u.steps ++ tail → Follows w'' s u → Ready s w'' u
+ready_same s w w' w'' t u id h firm' e f dw dt tail front follows = record {
   sound = λ k i.
       elim (or_cases (has w'.attached k) (eqb id k) (sym (f k) ∙ i)) [
         | inl a ↦ h.sound k (and_parts (has w.attached k) (not (eqb k id)) (sym (e k) ∙ a)).0
@@ -89,7 +88,12 @@ ready_same s w w' w'' t u id h firm' e f dw dt empty follows = record {
   known = λ k i. rw dt (h.known k i);
   lists = let l = h.lists in omega arith;
   follows = follows;
-  empty = empty;
+  rooted = rooted_more s w.attached w''.attached u.steps
+      (λ k i. elim (cases_eq id k) [
+        | inl z ↦ f k ∙ or_right (has w'.attached k) (eqb id k) (eq-eqb id k z)
+        | inr n ↦ f k ∙ or_left (has w'.attached k) (eqb id k) (e k ∙ and_from (has w.attached k) (not (eqb k id)) i (ap not (ne_eqb k id (λ z. n (sym z)))))
+      ])
+      (rooted_back s w.attached t.steps u.steps tail front h.rooted);
 }
 
 -- the clause that came
@@ -103,17 +107,21 @@ came_new s m w w' t id next new h e fills =
 pub id_apart : (s m : List (Option Stored)) (id next : ℕ) (new : List ℕ) → is_firm (slot s id) ≡ true → Fills s m next (firm_clause new) → id ≢ next
 id_apart s m id next new firm' fills z = firm_none (slot s id) firm' (ap (slot s) z ∙ fills.free)
 
+pub firm_still : (s m : List (Option Stored)) (id next : ℕ) (new : List ℕ) → is_firm (slot s id) ≡ true → Fills s m next (firm_clause new) → is_firm (slot m id) ≡ true
+firm_still s m id next new firm' fills = subst (λ (z : Option Stored). is_firm z ≡ true) (sym (fills.others id (id_apart s m id next new firm' fills))) firm'
+
 pub slot_next : (s m u : List (Option Stored)) (id next : ℕ) (new : List ℕ) → is_firm (slot s id) ≡ true → Fills s m next (firm_clause new) → Frees m u id → slot u next ≡ Some (firm_clause new)
 slot_next s m u id next new firm' fills frees = frees.others next (λ z. id_apart s m id next new firm' fills (sym z)) ∙ fills.filled
 
 pub slot_kept : (s m u : List (Option Stored)) (id next k : ℕ) (new : List ℕ) → Fills s m next (firm_clause new) → Frees m u id → k ≢ id → is_firm (slot s k) ≡ true → slot u k ≡ slot s k
 slot_kept s m u id next k new fills frees ne f = frees.others k ne ∙ fills.others k (λ z. firm_none (slot s k) f (ap (slot s) z ∙ fills.free))
 
-pub attached_kept : (s m u : List (Option Stored)) (w w' : Watching) (t : Trace) (id next : ℕ) (new : List ℕ) → Ready s w t → ((k : ℕ) → has w'.attached k ≡ (has w.attached k && not (eqb k id))) → Fills s m next (firm_clause new) → Frees m u id
-    → (k : ℕ) → has w'.attached k ≡ true → slot u k ≡ slot s k
-attached_kept s m u w w' t id next new h e fills frees k i =
-    let o = (others_of s w w' t id h e).sound k i in
-    slot_kept s m u id next k new fills frees o.0 o.1
+-- the attached clauses are as they were when one comes, and when one goes that left the lists
+pub attached_came : (s m : List (Option Stored)) (w : Watching) (t : Trace) (next : ℕ) (new : List ℕ) → Ready s w t → Fills s m next (firm_clause new) → (k : ℕ) → has w.attached k ≡ true → slot m k ≡ slot s k
+attached_came s m w t next new h fills k i = fills.others k (λ z. firm_none (slot s k) (h.sound k i) (ap (slot s) z ∙ fills.free))
+
+pub attached_went : (m u : List (Option Stored)) (w w' : Watching) (id : ℕ) → ((k : ℕ) → has w'.attached k ≡ (has w.attached k && not (eqb k id))) → Frees m u id → (k : ℕ) → has w'.attached k ≡ true → slot u k ≡ slot m k
+attached_went m u w w' id e frees k i = frees.others k (λ z. false≢true (sym (ap not (eq-eqb k id z)) ∙ (and_parts (has w.attached k) (not (eqb k id)) (sym (e k) ∙ i)).1))
 
 pub within_next : (s m u : List (Option Stored)) (n : ℕ) (w : Watching) (t : Trace) (id next : ℕ) (new : List ℕ) → Ready s w t → is_firm (slot s id) ≡ true → ((l : ℕ) → has new l ≡ true → has (slot_lits (slot s id)) l ≡ true) → Fills s m next (firm_clause new) → Frees m u id → t.declared ≤ n → Within n (slot_lits (slot u next))
 within_next s m u n w t id next new h firm' sub fills frees le =
@@ -124,10 +132,10 @@ within_next s m u n w t id next new h firm' sub fills frees le =
 pub within_again : (s : List (Option Stored)) (n : ℕ) (w : Watching) (t : Trace) (id : ℕ) → Ready s w t → is_firm (slot s id) ≡ true → t.declared ≤ n → Within n (slot_lits (slot s id))
 within_again s n w t id h firm' le k d lt = let x = h.known id firm' k d lt in let y = x.1 in (x.0, omega arith)
 
-pub ready_next : (s m u : List (Option Stored)) (w w' w'' : Watching) (t v : Trace) (id next : ℕ) (new : List ℕ) → Ready s w t → is_firm (slot s id) ≡ true → ((l : ℕ) → has new l ≡ true → has (slot_lits (slot s id)) l ≡ true)
+pub ready_next : (s m u : List (Option Stored)) (w w' w'' : Watching) (t : Trace) (id next : ℕ) (new : List ℕ) → Ready s w t → is_firm (slot s id) ≡ true → ((l : ℕ) → has new l ≡ true → has (slot_lits (slot s id)) l ≡ true)
     → Fills s m next (firm_clause new) → Frees m u id → ((k : ℕ) → has w'.attached k ≡ (has w.attached k && not (eqb k id))) → ((k : ℕ) → has w''.attached k ≡ (has w'.attached k || eqb next k))
-    → w''.declared ≡ w.declared → v.declared ≡ t.declared → v.steps ≡ [] → Follows w'' u v → Ready u w'' v
-ready_next s m u w w' w'' t v id next new h firm' sub fills frees e f dw dt empty follows = record {
+    → w''.declared ≡ w.declared → KeepsRoot (slot_lits (slot s id)) new t.steps → Follows w'' u t → Ready u w'' t
+ready_next s m u w w' w'' t id next new h firm' sub fills frees e f dw keeps follows = record {
   sound = λ k i.
       elim (or_cases (has w'.attached k) (eqb next k) (sym (f k) ∙ i)) [
         | inl a ↦
@@ -146,15 +154,31 @@ ready_next s m u w w' w'' t v id next new h firm' sub fills frees e f dw dt empt
       ];
   known = λ k i.
       elim (cases_eq next k) [
-        | inl z ↦ subst (λ (x : ℕ). Within v.declared (slot_lits (slot u x))) z (within_next s m u v.declared w t id next new h firm' sub fills frees (omega arith))
+        | inl z ↦ subst (λ (x : ℕ). Within t.declared (slot_lits (slot u x))) z (within_next s m u t.declared w t id next new h firm' sub fills frees (omega arith))
         | inr n ↦
             (let ne : k ≢ id = λ z. firm_none (slot u k) i (ap (slot u) z ∙ frees.freed) in
             let same : slot u k ≡ slot s k = frees.others k ne ∙ fills.others k (λ z. n (sym z)) in
-            rw dt (subst (λ (z : Option Stored). Within t.declared (slot_lits z)) (sym same) (h.known k (subst (λ (z : Option Stored). is_firm z ≡ true) same i))))
+            subst (λ (z : Option Stored). Within t.declared (slot_lits z)) (sym same) (h.known k (subst (λ (z : Option Stored). is_firm z ≡ true) same i)))
       ];
   lists = let l = h.lists in omega arith;
   follows = follows;
-  empty = empty;
+  rooted = λ i lt.
+      let r = h.rooted i lt in
+      elim (cases_eq r.by id) [
+        | inl z ↦
+            (let was : IsReason (slot_lits (slot s id)) t.steps i = subst (λ (k : ℕ). IsReason (slot_lits (slot s k)) t.steps i) z r.implied in
+            record {
+              by = next;
+              attached = f next ∙ or_right (has w'.attached next) (eqb next next) (eq-eqb next next refl);
+              implied = subst (λ (x : Option Stored). IsReason (slot_lits x) t.steps i) (sym (slot_next s m u id next new firm' fills frees)) (record { holds = keeps i lt was; others = λ l a ne. was.others l (sub l a) ne });
+            })
+        | inr n ↦
+            record {
+              by = r.by;
+              attached = f r.by ∙ or_left (has w'.attached r.by) (eqb next r.by) (e r.by ∙ and_from (has w.attached r.by) (not (eqb r.by id)) r.attached (ap not (ne_eqb r.by id n)));
+              implied = subst (λ (x : Option Stored). IsReason (slot_lits x) t.steps i) (sym (slot_kept s m u id next r.by new fills frees n (h.sound r.by r.attached))) r.implied;
+            }
+      ];
 }
 
 -- the longer clause may go

@@ -9,68 +9,24 @@
 //!
 //! With L the sum of the lengths of the firm clauses at the start, a round is at most L steps,
 //! and each but the last takes a literal away. So L (L + 1) steps are enough.
-ghost use Rattle.std.specs.Prelude.{◌≡◌, ◌≤◌, ◌<◌, ◌-◌, ℕ, List, [], true, false, Option, Ok, IfOk, OnOk};
-ghost use Rattle.sat_terms.specs.Limits.{max_var};
-ghost use Rattle.clause_store.specs.Stored.{Stored};
+ghost use Rattle.std.specs.Prelude.{◌≡◌, ◌-◌, true, false, Ok, IfOk};
 ghost use Rattle.rule_kernel.specs.Frozen.{is_frozen};
 ghost use Rattle.rule_kernel.specs.declared.report.Ended.TheVariants.{Fixpoint};
 ghost use Rattle.firm_terms.specs.Firm.{firm, has_empty};
 ghost use Rattle.firm_terms.specs.Vivifying.{AllCalm};
 ghost use Rattle.rule_kernel.specs.Rules.{SameButMarks};
 ghost use Rattle.pass_terms.specs.Ruled.{Ruled};
-ghost use Rattle.trail_state.specs.Trail.{Trace};
-ghost use Rattle.watch_lists.specs.Propagation.{Follows};
-ghost use Rattle.vivify_pass.specs.Trailing.{Ready};
 ghost use Rattle.vivify_pass.specs.Turning.{Ends};
 
-use crate::setup::{attach_all, last_var};
+use crate::root::set_up;
 use crate::turn::rounds;
-use clause_store::store::Store;
 use pass_terms::refuted::is_refuted;
 use rule_kernel::frozen::Frozen;
 use rule_kernel::kernel::Kernel;
 use rule_kernel::report::{Ended, PassReport};
-use sat_model::literal::Var;
 use sat_model::memory::Memory;
 use trail_state::trail::Trail;
 use watch_lists::watches::Watches;
-
-// Declares the variables up to a number.
-fn declare_to(last: u32, watches: &mut Watches, trail: &mut Trail) -> Result<(), Memory>
-    requires small { last ≤ max_var }
-    requires watches { watches.old.declared ≡ 0 }
-    requires trail { trail.old.declared ≡ 0 }
-    ensures attached { watches.new.attached ≡ watches.old.attached }
-    ensures steps { trail.new.steps ≡ trail.old.steps }
-    ensures watches { OnOk result (watches.new.declared ≡ last) }
-    ensures trail { OnOk result (trail.new.declared ≡ last) }
-    ensures follows { (s : List (Option Stored)) (t : Trace) → Follows watches.old s t
-        → Follows watches.new s t }
-{
-    match Var::new(last) {
-        None => Ok(()),
-        Some(var) => {
-            trail.declare(var)?;
-            watches.declare(var)?;
-            Ok(())
-        }
-    }
-}
-
-// Declares the variables of the firm clauses, and attaches these.
-fn set_up(store: &Store, watches: &mut Watches, trail: &mut Trail) -> Result<(), Memory>
-    requires attached { watches.old.attached ≡ [] }
-    requires watches { watches.old.declared ≡ 0 }
-    requires follows { (s : List (Option Stored)) (t : Trace) → Follows watches.old s t }
-    requires steps { trail.old.steps ≡ [] }
-    requires trail { trail.old.declared ≡ 0 }
-    ensures { OnOk result (Ready store.now watches.new trail.new) }
-{
-    let last = last_var(store);
-    declare_to(last, watches, trail)?;
-    attach_all(watches, store, store.firm_ids())?;
-    Ok(())
-}
 
 // The kernel remembers an end at which vivification shortens no clause.
 fn remember(kernel: &mut Kernel, ended: Ended)
@@ -132,7 +88,7 @@ pub fn run(kernel: &mut Kernel, frozen: &Frozen, limit: u64) -> Result<PassRepor
     let alloc = kernel.alloc();
     let mut trail = Trail::new(alloc);
     let mut watches = Watches::new(alloc);
-    set_up(kernel.store(), &mut watches, &mut trail)?;
+    set_up(alloc, kernel.store(), &mut watches, &mut trail)?;
     let ended = rounds(alloc, kernel, &mut watches, &mut trail, limit)?;
     remember(kernel, ended);
     Ok(PassReport {

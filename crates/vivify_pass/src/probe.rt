@@ -8,20 +8,23 @@
 //! those that were assumed: they and it are a clause that follows. And a literal that has become
 //! false already is left out, as it is false wherever the others are.
 //!
-//! Nothing is propagated before the first literal is assumed, so the trail is empty at its root
-//! and is cleared by going back to it. Which literal is found true where several are is left
-//! open.
+//! The trail has what the other clauses make true by themselves when the first literal is taken,
+//! so that it need not be found anew for each clause. The rule looks at nothing before the first
+//! is assumed, and so it is assumed whatever it is then. Where it is true on the trail, the clause
+//! that makes it true is false once it is assumed false. Where it is false, nothing follows that is
+//! not on the trail already. Which literal is found true where several are is left open.
 //!
 //! What is on the trail is just what unit propagation makes true from the assumed literals: each
 //! step of it has a reason among these clauses, and where propagation ended without a false
 //! clause nothing else follows. So what is read off the trail is said of that closure, and not of
 //! the order in which propagation went.
-ghost use Rattle.std.specs.Prelude.{◌≡◌, ◌≤◌, ◌<◌, ◌+◌, length, ℕ, ◌++◌, ◌∷◌, [], None, true, IfOk, IfSome, IfNone};
+ghost use Rattle.std.specs.Prelude.{◌≡◌, ◌≤◌, ◌<◌, ◌+◌, length, ℕ, List, ◌++◌, ◌∷◌, [], None, true, false, IfOk, IfSome, IfNone};
 ghost use Rattle.sat_terms.specs.Literal.{has, neg as opposite, var_of};
 ghost use Rattle.sat_terms.specs.Normal.{IsNormal};
+ghost use Rattle.trail_state.specs.declared.trail.Step.{Step};
 ghost use Rattle.trail_state.specs.Trail.{value_on, true_on};
 ghost use Rattle.firm_terms.specs.Vivifying.{negs};
-ghost use Rattle.vivify_pass.specs.Trailing.{AllAbove, Probes, Looked, Probed, IsCount};
+ghost use Rattle.vivify_pass.specs.Trailing.{IsOver, IsSettled, Probes, Looked, Leaves, Probed, IsCount};
 ghost use Rattle.watch_lists.specs.Propagation.{Follows};
 
 use clause_store::store::Store;
@@ -54,7 +57,7 @@ fn is_true(trail: &Trail, lit: Lit) -> bool
     }
 }
 
-// A literal of a clause that is true on the trail, if there is one.
+// The first of some literals that is true on the trail, if one is.
 fn true_one(trail: &Trail, lits: &[Lit]) -> Option<Lit>
     ensures some { IfSome result (λ l. (has lits.now l ≡ true)
         × (true_on trail.now.steps l ≡ true)) }
@@ -62,16 +65,16 @@ fn true_one(trail: &Trail, lits: &[Lit]) -> Option<Lit>
         → true_on trail.now.steps l ≡ true → ⊥) }
 {
     for lit in lits {
-        if trail.value(*lit) == Some(true) {
+        if is_true(trail, *lit) {
             return Some(*lit);
         }
     }
     None
 }
 
-/// Assumes a literal of a clause false where some were, and propagates over the attached clauses,
-/// which are the firm ones but one.
-pub(crate) fn assume(
+// Assumes a literal of a clause false that has no value, and propagates over the attached clauses,
+// which are the firm ones but one.
+fn assume_open(
     store: &Store,
     watches: &mut Watches,
     trail: &mut Trail,
@@ -85,8 +88,11 @@ pub(crate) fn assume(
     requires declared { var_of (opposite lit) ≤ trail.old.declared }
     ensures kept { watches.new.attached ≡ watches.old.attached }
     ensures declared { trail.new.declared ≡ trail.old.declared }
-    ensures probes { Probes store.now id (negs (kept.now ++ lit ∷ [])) watches.new trail.new }
-    ensures above { AllAbove trail.old.steps → AllAbove trail.new.steps }
+    ensures follows { Follows watches.new store.now trail.new }
+    ensures leaves { IfOk result (λ look.
+        Leaves store.now id (negs (kept.now ++ lit ∷ [])) watches.new trail.new look) }
+    ensures over { (root : List Step) → IsOver root trail.old.steps
+        → IsOver root trail.new.steps }
     ensures lists { watches.new.declared ≡ watches.old.declared }
     ensures longer { (l : ℕ) → true_on trail.old.steps l ≡ true
         → true_on trail.new.steps l ≡ true }
@@ -107,9 +113,67 @@ pub(crate) fn assume(
     }
 }
 
-/// What the rule makes of the clause of an id, whose literals these are, on an empty trail over
-/// the other firm clauses. Each literal that is assumed is a step. `None` where the limit left no
-/// step.
+/// Assumes a literal of a clause false where some were: one that has no value, or the first of
+/// all.
+pub(crate) fn assume(
+    store: &Store,
+    watches: &mut Watches,
+    trail: &mut Trail,
+    id: ClauseId,
+    lits: &[Lit],
+    kept: &[Lit],
+    lit: Lit,
+) -> Result<Look, Memory>
+    requires probes { Probes store.now id (negs kept.now) watches.old trail.old }
+    requires free { 0 < length kept.now → value_on trail.old.steps lit ≡ None }
+    requires settled { length kept.now ≡ 0
+        → IsSettled watches.old.attached store.now trail.old.steps }
+    requires declared { var_of (opposite lit) ≤ trail.old.declared }
+    ensures kept { watches.new.attached ≡ watches.old.attached }
+    ensures declared { trail.new.declared ≡ trail.old.declared }
+    ensures follows { Follows watches.new store.now trail.new }
+    ensures leaves { IfOk result (λ look.
+        Leaves store.now id (negs (kept.now ++ lit ∷ [])) watches.new trail.new look) }
+    ensures over { (root : List Step) → IsOver root trail.old.steps
+        → IsOver root trail.new.steps }
+    ensures lists { watches.new.declared ≡ watches.old.declared }
+    ensures longer { (l : ℕ) → true_on trail.old.steps l ≡ true
+        → true_on trail.new.steps l ≡ true }
+    ensures looked { IfOk result (λ look.
+        Looked store.now id (negs (kept.now ++ lit ∷ [])) lits.now trail.new.steps look) }
+{
+    trail.law_shape();
+    match trail.value(lit) {
+        None => assume_open(store, watches, trail, id, lits, kept, lit),
+        Some(value) => {
+            // It is the first. The clause that makes it true is false where it is false.
+            if value {
+                return Ok(Look::False);
+            }
+            match true_one(trail, lits) {
+                Some(found) => Ok(Look::True(found)),
+                None => Ok(Look::Open),
+            }
+        }
+    }
+}
+
+// Whether a literal is left out where some were assumed: it is false already.
+fn is_left_out(trail: &Trail, kept: &[Lit], lit: Lit) -> bool
+    ensures yes { result ≡ true → (0 < length kept.now)
+        × (true_on trail.now.steps (opposite lit) ≡ true) }
+    ensures no { result ≡ false → 0 < length kept.now
+        → true_on trail.now.steps (opposite lit) ≡ true → ⊥ }
+{
+    if kept.len() == 0 {
+        return false;
+    }
+    is_true(trail, lit.neg())
+}
+
+/// What the rule makes of the clause of an id, whose literals these are, over the other firm
+/// clauses, from what these make true by themselves. Each literal that is assumed is a step. `None`
+/// where the limit left no step.
 pub(crate) fn probe(
     alloc: Global,
     store: &Store,
@@ -122,11 +186,11 @@ pub(crate) fn probe(
 ) -> Result<Option<Vec<Lit>>, Memory>
     requires normal { IsNormal lits.now }
     requires probes { Probes store.now id [] watches.old trail.old }
-    requires empty { trail.old.steps ≡ [] }
+    requires settled { IsSettled watches.old.attached store.now trail.old.steps }
     requires declared { (l : ℕ) → has lits.now l ≡ true
         → var_of (opposite l) ≤ trail.old.declared }
     requires rest { steps.old ≤ limit }
-    ensures above { AllAbove trail.new.steps }
+    ensures over { IsOver trail.old.steps trail.new.steps }
     ensures lists { watches.new.declared ≡ watches.old.declared }
     ensures rest { steps.new ≤ limit }
     ensures spent { steps.new ≤ steps.old + length lits.now }
@@ -143,8 +207,7 @@ pub(crate) fn probe(
     let mut kept = Vec::new(alloc);
     for lit in lits {
         trail.law_shape();
-        // It is false already, and is left out.
-        if is_true(trail, lit.neg()) {
+        if is_left_out(trail, kept.as_slice(), *lit) {
             continue;
         }
         if *steps >= limit {

@@ -9,17 +9,19 @@
 //!
 //! The shorter clause has an id of its own, and gets the place of the one that went. So the ring
 //! holds the ids of the firm clauses, each once, and is made but once.
-ghost use Rattle.std.specs.Prelude.{◌≡◌, ◌≤◌, length, true, IfOk};
-ghost use Rattle.clause_store.specs.Stored.{slot, is_firm};
+ghost use Rattle.std.specs.Prelude.{◌≡◌, ◌≤◌, ◌<◌, length, true, OnOk, IfOk};
+ghost use Rattle.clause_store.specs.Stored.{slot, slot_lits, is_firm};
 ghost use Rattle.clause_store.specs.Listing.{HasEachOnce, firm_at};
 ghost use Rattle.pass_terms.specs.Ruled.{Ruled, always};
-ghost use Rattle.vivify_pass.specs.Trailing.{Ready};
-ghost use Rattle.vivify_pass.specs.Turning.{AreFirm, Turned, Tried, Rests};
+ghost use Rattle.vivify_pass.specs.Trailing.{Ready, Found, KeepsRoot};
+ghost use Rattle.vivify_pass.specs.Turning.{AreFirm, Shortens, Turned, Tried, Rests};
 
-use crate::probe::probe;
+use crate::root::settle;
+use crate::trial::find;
 use rule_kernel::kernel::Kernel;
 use rule_kernel::report::Ended;
 use sat_model::lists::{ClauseId, Lits};
+use sat_model::literal::Lit;
 use sat_model::memory::Memory;
 use std::alloc::Global;
 use trail_state::trail::Trail;
@@ -47,12 +49,41 @@ pub(crate) enum Round {
     Stopped,
 }
 
-// Takes a clause off the lists, tries the rule on it, and puts it or its shorter form back.
+// Puts a shorter clause in the place of one, in the kernel and in the lists.
+fn replace(
+    kernel: &mut Kernel,
+    watches: &mut Watches,
+    trail: &Trail,
+    id: ClauseId,
+    new: &[Lit],
+) -> Result<ClauseId, Memory>
+    requires ready { Ready kernel.old.store watches.old trail.now }
+    requires firm { is_firm (slot kernel.old.store id) ≡ true }
+    requires found { Found kernel.old.store id (slot_lits (slot kernel.old.store id)) new.now }
+    requires keeps { KeepsRoot (slot_lits (slot kernel.old.store id)) new.now trail.now.steps }
+    requires less { length new.now < length (slot_lits (slot kernel.old.store id)) }
+    ensures ruled { Ruled always kernel.old kernel.new }
+    ensures shorter { IfOk result (λ next. Shortens kernel.old.store kernel.new.store id next) }
+    ensures ready { OnOk result (Ready kernel.new.store watches.new trail.now) }
+{
+    let _ = trail;
+    // The new clause comes first: the old one is implied by it.
+    let next = kernel.add_implied(new)?;
+    watches.law_following();
+    watches.detach(kernel.store(), id);
+    kernel.drop_implied(id);
+    watches.law_following();
+    watches.attach(kernel.store(), next)?;
+    Ok(next)
+}
+
+// Tries the rule on a clause, and puts its shorter form in its place if there is one.
 fn try_one(
     alloc: Global,
     kernel: &mut Kernel,
     watches: &mut Watches,
     trail: &mut Trail,
+    rooted: &mut bool,
     id: ClauseId,
     steps: &mut u64,
     limit: u64,
@@ -65,9 +96,8 @@ fn try_one(
         Turned kernel.old kernel.new watches.new trail.new id steps.old steps.new limit turn) }
 {
     let lits = Lits::from_slice(alloc, kernel.store().get(id))?;
-    // Propagation goes over the other clauses alone.
-    watches.detach(kernel.store(), id);
-    let found = probe(
+    settle(alloc, kernel.store(), watches, trail, rooted)?;
+    let found = find(
         alloc,
         kernel.store(),
         watches,
@@ -77,22 +107,14 @@ fn try_one(
         steps,
         limit,
     )?;
-    trail.back_to(0);
-    watches.cut(trail);
     match found {
         None => Ok(Turn::Full),
         Some(new) => {
             if new.len() < lits.as_slice().len() {
-                // The new clause comes first: the old one is implied by it.
-                let next = kernel.add_implied(new.as_slice())?;
-                kernel.drop_implied(id);
-                watches.law_following();
-                watches.attach(kernel.store(), next)?;
-                Ok(Turn::Shorter(next))
-            } else {
-                watches.attach(kernel.store(), id)?;
-                Ok(Turn::Same)
+                let next = replace(kernel, watches, trail, id, new.as_slice())?;
+                return Ok(Turn::Shorter(next));
             }
+            Ok(Turn::Same)
         }
     }
 }
@@ -103,6 +125,7 @@ fn try_some(
     kernel: &mut Kernel,
     watches: &mut Watches,
     trail: &mut Trail,
+    rooted: &mut bool,
     ids: &[ClauseId],
     steps: &mut u64,
     limit: u64,
@@ -117,7 +140,7 @@ fn try_some(
 {
     for place in 0..ids.len() {
         let id = ids[place];
-        match try_one(alloc, kernel, watches, trail, id, steps, limit)? {
+        match try_one(alloc, kernel, watches, trail, rooted, id, steps, limit)? {
             Turn::Same => {}
             Turn::Shorter(next) => return Ok(Round::Changed(place, next)),
             Turn::Full => return Ok(Round::Stopped),
@@ -133,6 +156,7 @@ fn try_round(
     kernel: &mut Kernel,
     watches: &mut Watches,
     trail: &mut Trail,
+    rooted: &mut bool,
     ids: &[ClauseId],
     start: usize,
     steps: &mut u64,
@@ -147,8 +171,8 @@ fn try_round(
         Tried kernel.old kernel.new watches.new trail.new ids.now steps.old steps.new limit
         round) }
 {
-    match try_some(alloc, kernel, watches, trail, &ids[start..], steps, limit)? {
-        Round::Unchanged => try_some(alloc, kernel, watches, trail, &ids[..start], steps, limit),
+    match try_some(alloc, kernel, watches, trail, rooted, &ids[start..], steps, limit)? {
+        Round::Unchanged => try_some(alloc, kernel, watches, trail, rooted, &ids[..start], steps, limit),
         Round::Changed(place, next) => Ok(Round::Changed(start + place, next)),
         Round::Stopped => Ok(Round::Stopped),
     }
@@ -168,6 +192,7 @@ pub(crate) fn rounds(
     ensures ended { IfOk result (λ ended. Rests kernel.old.store kernel.new.store limit ended) }
 {
     let mut ids = Vec::from_slice(alloc, kernel.store().firm_ids())?;
+    let mut rooted = true;
     let mut start = 0;
     let mut steps = 0;
     loop {
@@ -176,6 +201,7 @@ pub(crate) fn rounds(
             kernel,
             watches,
             trail,
+            &mut rooted,
             ids.as_slice(),
             start,
             &mut steps,
