@@ -1,5 +1,5 @@
 -- What follows where at most one member of a group is true.
-use Rattle.std.proofs.Common.{ℕ, ◌*◌, ◌+◌, ◌≡◌, ◌≢◌, ◌<◌, ◌↔◌, ◌||◌, ◌&&◌, Bool, true, false, not, eqb, List, [], ◌∷◌, length, take, get_or, inl, inr, refl, sym, ap, ◌∙◌, subst, arith}
+use Rattle.std.proofs.Common.{ℕ, ◌*◌, ◌+◌, ◌≡◌, ◌≢◌, ◌<◌, ◌||◌, ◌&&◌, Bool, true, false, not, eqb, List, [], ◌∷◌, length, take, get_or, inl, inr, refl, sym, ap, ◌∙◌, subst, arith}
 use Rattle.std.specs.List.{list_all}
 use Rattle.std.proofs.lemmas.Bool.{and_parts, and_from, or_cases, or_left, or_right, cases_Bool, eq-eqb, eqb-true, false≢true}
 use Rattle.std.proofs.lemmas.List.Folds.{list_all_more}
@@ -44,9 +44,6 @@ no_two_from f group h =
       tested false b e h = or_right e (not (false && b)) refl
       tested true false e h = or_right e (not (true && false)) refl
       tested true true e h = or_left e (not (true && true)) (h refl refl)
-
-pub no_two_is : (f : Assignment) (group : List ℕ) → (no_two f group ≡ true) ↔ NoTwo f group
-no_two_is f group = (no_two_says f group, no_two_from f group)
 
 -- the truth of a variable's literals
 pub pos_true : (f : Assignment) (v : ℕ) → lit_true f (pos_lit v) ≡ f v

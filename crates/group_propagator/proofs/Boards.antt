@@ -1,5 +1,5 @@
 -- The desk on which two variables are true is whole for the model that has them true.
-use Rattle.std.proofs.Common.{ℕ, ◌≡◌, ◌∷◌, [], true, refl}
+use Rattle.std.proofs.Common.{◌≡◌, ◌∷◌, [], true, refl}
 use Rattle.std.proofs.lemmas.List.Elements.{All-nil, All-cons}
 use Rattle.std.specs.Prelude.{is_some}
 use Rattle.sat_terms.specs.Literal.{pos_lit, neg}

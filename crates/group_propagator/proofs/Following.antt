@@ -1,19 +1,15 @@
 -- How what the propagator remembers keeps step with the seen trail, and what it may then say.
-use Rattle.std.proofs.Common.{ℕ, ◌≡◌, ◌≢◌, ◌<◌, ◌≤◌, ◌||◌, ◌&&◌, Bool, true, false, not, cond, eqb, leb, List, [], ◌∷◌, ◌++◌, take, length, get_or, Option, Some, None, inl, inr, refl, sym, ap, ◌∙◌, subst, arith}
-use Rattle.std.specs.Prelude.{find, is_some, option_map}
+use Rattle.std.proofs.Common.{ℕ, ◌≡◌, ◌≤◌, ◌&&◌, Bool, true, false, not, eqb, leb, List, [], ◌∷◌, ◌++◌, take, Option, Some, None, inl, inr, refl, sym, ap, arith}
+use Rattle.std.specs.Prelude.{is_some}
 use Rattle.std.specs.List.{list_all}
-use Rattle.std.proofs.lemmas.Bool.{and_parts, and_from, or_cases, or_left, or_right, or_parts, cases_Bool, not-true, eq-eqb, eqb-true, eqb-false, leb-true, le-leb, leb-false, false≢true}
-use Rattle.std.proofs.lemmas.List.{take_all}
-use Rattle.sat_terms.specs.Literal.{has, neg, pos_lit, neg_lit, var_of}
-use Rattle.sat_terms.specs.Truth.{Assignment, lit_true, clause_true}
-use Rattle.sat_terms.proofs.Literals.{neg-neg, var_of-neg, var_of-pos_lit, var_of-neg_lit, neg-pos_lit}
+use Rattle.std.proofs.lemmas.Bool.{and_parts, and_from, or_cases, or_left, or_right, cases_Bool, eq-eqb, eqb-true, leb-true, le-leb, leb-false, false≢true}
+use Rattle.sat_terms.specs.Literal.{pos_lit}
 use Rattle.user_propagator.specs.declared.seen.Seen.{Seen}
 use Rattle.user_propagator.specs.Board.{Board, SeenTrail, trail_of, trail_value}
 use Rattle.user_propagator.specs.Meaning.{put_on, cut_to, CanPut}
-use Rattle.user_propagator.proofs.Lawful.{value_neg, value_stays}
-use Rattle.group_propagator.specs.Group.{is_true_member, is_false, none_true, leads, is_settled, follows, kept_at, IsSettled}
-use Rattle.group_propagator.proofs.Admitting.{all_has}
-use Rattle.group_propagator.proofs.Leading.{chosen_put, chosen_stays, chosen_gone, chosen_kept, none_put, none_holds, all_filter}
+use Rattle.user_propagator.proofs.Lawful.{value_stays}
+use Rattle.group_propagator.specs.Group.{is_true_member, is_false, none_true, leads, is_settled, follows, kept_at}
+use Rattle.group_propagator.proofs.Leading.{chosen_put, chosen_stays, chosen_gone, chosen_kept, none_put, all_filter}
 
 pub is_false_some : (r : Option Bool) → is_false r ≡ true → r ≡ Some false
 is_false_some None h = absurd (false≢true h)

@@ -1,9 +1,9 @@
 -- The first literal of a seen trail that makes a member of the group true: how it stays, comes and
 -- goes.
-use Rattle.std.proofs.Common.{ℕ, suc, zero, ◌*◌, ◌%◌, ◌/◌, ◌≡◌, ◌≢◌, ◌<◌, ◌≤◌, ◌||◌, ◌&&◌, Bool, true, false, not, cond, eqb, leb, List, [], ◌∷◌, ◌++◌, take, Option, Some, None, inl, inr, refl, sym, ap, ◌∙◌, subst, arith}
-use Rattle.std.specs.Prelude.{find, filter, nat_le}
+use Rattle.std.proofs.Common.{ℕ, suc, zero, ◌*◌, ◌%◌, ◌/◌, ◌≡◌, ◌≢◌, ◌<◌, ◌≤◌, ◌&&◌, Bool, true, false, not, cond, eqb, leb, List, [], ◌∷◌, ◌++◌, take, Option, Some, None, inl, inr, refl, sym, ap, ◌∙◌, subst, arith}
+use Rattle.std.specs.Prelude.{find, filter}
 use Rattle.std.specs.List.{list_all}
-use Rattle.std.proofs.lemmas.Bool.{and_parts, and_from, cases_Bool, cases_eq, not-true, not_from_false, eq-eqb, ne_eqb, eqb-true, eqb-false, leb-true, le-leb, lt-leb, false≢true}
+use Rattle.std.proofs.lemmas.Bool.{and_parts, and_from, cases_Bool, cases_eq, not-true, eq-eqb, ne_eqb, eqb-true, eqb-false, leb-true, le-leb, lt-leb, false≢true}
 use Rattle.std.proofs.lemmas.List.Folds.{list_all-append}
 use Rattle.sat_terms.specs.Literal.{has, neg, pos_lit, var_of}
 use Rattle.user_propagator.specs.declared.seen.Seen.{Seen}

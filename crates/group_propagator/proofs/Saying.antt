@@ -1,22 +1,22 @@
 -- What a propagator in step with the seen trail may say: a literal with its reason, a clause, or
 -- that nothing is left to say.
-use Rattle.std.proofs.Common.{ℕ, ◌+◌, ◌*◌, ◌/◌, ◌%◌, ◌≡◌, ◌≢◌, ◌<◌, ◌≤◌, ◌||◌, ◌&&◌, Bool, true, false, not, eqb, List, [], ◌∷◌, take, length, Option, Some, None, inl, inr, refl, sym, ap, ◌∙◌, subst, arith}
+use Rattle.std.proofs.Common.{ℕ, ◌+◌, ◌*◌, ◌%◌, ◌≡◌, ◌≢◌, ◌≤◌, ◌&&◌, Bool, true, false, not, eqb, List, [], ◌∷◌, take, length, Option, Some, None, inl, inr, refl, sym, ap, ◌∙◌, subst, arith}
 use Rattle.std.specs.Prelude.{find, is_some, option_map}
 use Rattle.std.specs.List.{list_all}
 use Rattle.std.proofs.Math.Seq.{drop-append_seam}
-use Rattle.std.proofs.lemmas.Bool.{and_parts, and_from, or_cases, or_parts, or_left, or_right, cases_Bool, not-true, true_from_ne_false, false_from_ne_true, eq-eqb, ne_eqb, eqb-true, eqb-false, false≢true}
+use Rattle.std.proofs.lemmas.Bool.{and_parts, or_cases, or_parts, or_left, not-true, false_from_ne_true, eq-eqb, ne_eqb, eqb-true, eqb-false, false≢true}
 use Rattle.std.proofs.lemmas.List.{take_all}
 use Rattle.sat_terms.specs.Literal.{has, neg, pos_lit, neg_lit, var_of}
 use Rattle.sat_terms.specs.Truth.{Assignment, values, lit_true, clause_true}
 use Rattle.sat_terms.proofs.Literals.{var_of-pos_lit, var_of-neg_lit, neg-pos_lit}
 use Rattle.user_propagator.specs.declared.seen.Seen.{Seen}
 use Rattle.user_propagator.specs.Board.{Board, Handed, IsSeenTrail, trail_of, trail_value, entry, with_handed}
-use Rattle.user_propagator.specs.Meaning.{Meaning, CalledBack, IsImplied, IsReasonGiven, StandsAt, MakesTrue, IsRefuted, next_count}
+use Rattle.user_propagator.specs.Meaning.{Meaning, CalledBack, IsImplied, IsReasonGiven, StandsAt, IsRefuted, next_count}
 use Rattle.user_propagator.proofs.Lawful.{called_handing, called_stepped, each_of_two, value_neg, value_known, value_holds}
-use Rattle.group_propagator.specs.Group.{no_two, is_true_member, is_false_member, is_false, is_settled, is_explained_by, explains_group, group_meaning, follows, IsSettled, IsNewFor, HandsTwo, AreTwo}
+use Rattle.group_propagator.specs.Group.{is_true_member, is_false_member, is_false, is_settled, is_explained_by, explains_group, group_meaning, follows, IsSettled, IsNewFor, HandsTwo, AreTwo}
 use Rattle.group_propagator.proofs.Admitting.{all_has, no_two_says, no_two_from, neg_true, one_false, two_false}
 use Rattle.group_propagator.proofs.Leading.{chosen_member, chosen_value, found_is, chosen_found, none_found, none_holds}
-use Rattle.group_propagator.proofs.Following.{IsFree, IsLed, is_free, is_led, from_led, is_false_some}
+use Rattle.group_propagator.proofs.Following.{IsLed, is_free, is_led, is_false_some}
 
 -- a literal that makes a member true, or false, is one of the two of that member
 lit_of_true : (group : List ℕ) (l : ℕ) → is_true_member group l ≡ true → (l ≡ pos_lit (var_of l)) × (has group (var_of l) ≡ true)

@@ -28,8 +28,8 @@ is_false None = false
 is_false (Some true) = false
 is_false (Some false) = true
 
--- A literal is explained where it makes a member false and the member that the seen trail made true
--- first is another one.
+-- A literal is explained where it makes a member false, and the member that the seen trail made
+-- true first is another one and is true there.
 abbrev pub is_explained_by : List ℕ → List Seen → ℕ → Option Seen → Bool
 is_explained_by group seen l None = false
 is_explained_by group seen l (Some c) =
