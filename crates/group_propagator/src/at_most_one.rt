@@ -1,8 +1,8 @@
 //! A propagator for a group of variables of which at most one may be true.
 //!
 //! As clauses such a group takes one for each two members, which for a thousand members is half a
-//! million. This propagator keeps the group alone, and makes a clause of two literals only where
-//! the solver asks for one.
+//! million. This propagator keeps the group alone, and makes a clause of two literals only where one
+//! is asked for, or is false.
 //!
 //! It watches its members by the notifications. The first literal of the seen trail that makes a
 //! member true is chosen: kept, with its level, until that level is taken back. From then on every
@@ -145,6 +145,9 @@ impl Theory for AtMostOne {
         Err(Memory)
     }
 
+    // No notification changes what is admitted, which is a matter of the group alone, nor what is
+    // explained, which is one of the seen literals. What each must keep is `follows`.
+
     /// The first literal that makes a member true is chosen.
     fn notify_assigned(&mut self, lit: Lit, decision: bool) {
         self.asked = next(self.asked);
@@ -221,6 +224,8 @@ impl Theory for AtMostOne {
         if !desk.is_observed(member) {
             return Ok(None);
         }
+        // Where the seen trail is true the chosen literal is, and so the member false, if at most one
+        // is true. The reason can be given: the chosen literal stands on the seen trail already.
         Ok(Some(lit))
     }
 
@@ -232,6 +237,7 @@ impl Theory for AtMostOne {
         let Some(chosen) = self.chosen else {
             unreachable!();
         };
+        // At most one of the two members is true, and the chosen one was before the literal came.
         out.push(lit)?;
         out.push(chosen.lit.neg())?;
         Ok(())
