@@ -197,7 +197,7 @@ module _ (s : List (Option Stored)) (id : ℕ) (c : List ℕ) (l top : ℕ) (w :
             front_forced p.0 (neg m) p.1 (λ j lt. before (suc j) j (omega arith) lt) (was.others m (subst (λ (z : List ℕ). has z m ≡ true) is i) (λ x. ne (x ∙ p.2))))
         | inr n ↦
             (let f : Forced s id [] (step t.steps p.0).lit = unit (step t.steps p.0).lit r.by n (ready.sound r.by r.attached) r.implied.holds
-                (λ k y d. front_forced p.0 (neg k) p.1 (λ j lt. before (suc j) j (omega arith) lt) (r.implied.others k y d)) in
+            (λ k y d. front_forced p.0 (neg k) p.1 (λ j lt. before (suc j) j (omega arith) lt) (r.implied.others k y d)) in
             let q = place_of_true t.steps (neg m) (held.off m i ne) in
             subst (λ (z : ℕ). Forced s id [] z) q.2 (all_steps (subst (λ (z : ℕ). Forced s id [] z) p.2 f) (suc q.0) q.0 (omega arith) q.1))
       ]

@@ -204,12 +204,16 @@ false_value t l e = go (true_on t l) (true_on t (neg l)) e where
 -- where a literal is forced by nothing, a clause is false once it is assumed false
 pub forced_fails : (s : List (Option Stored)) (id : ℕ) (given : List ℕ) (l : ℕ) → has given (neg l) ≡ true → Forced s id [] l → Fails s id given
 forced_fails s id given _ i (start l none) = absurd (false≢true none)
-forced_fails s id given _ i (unit l k ne firm' a others) =
-    (k, ne, firm', λ m b.
-    elim (cases_eq m l) [
-      | inl e ↦ start (neg m) (subst (λ (z : ℕ). has given (neg z) ≡ true) (sym e) i)
-      | inr d ↦ forced_more s id [] given (neg m) (λ n x. absurd (false≢true x)) (others m b d)
-    ])
+forced_fails s id given _ i (unit l k ne firm' a others) = (
+  k,
+  ne,
+  firm',
+  λ m b.
+      elim (cases_eq m l) [
+        | inl e ↦ start (neg m) (subst (λ (z : ℕ). has given (neg z) ≡ true) (sym e) i)
+        | inr d ↦ forced_more s id [] given (neg m) (λ n x. absurd (false≢true x)) (others m b d)
+      ],
+)
 
 no_length : (c : List ℕ) → length c ≡ 0 → c ≡ []
 no_length [] h = refl

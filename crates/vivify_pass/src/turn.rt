@@ -171,8 +171,26 @@ fn try_round(
         Tried kernel.old kernel.new watches.new trail.new ids.now steps.old steps.new limit
         round) }
 {
-    match try_some(alloc, kernel, watches, trail, rooted, &ids[start..], steps, limit)? {
-        Round::Unchanged => try_some(alloc, kernel, watches, trail, rooted, &ids[..start], steps, limit),
+    match try_some(
+        alloc,
+        kernel,
+        watches,
+        trail,
+        rooted,
+        &ids[start..],
+        steps,
+        limit,
+    )? {
+        Round::Unchanged => try_some(
+            alloc,
+            kernel,
+            watches,
+            trail,
+            rooted,
+            &ids[..start],
+            steps,
+            limit,
+        ),
         Round::Changed(place, next) => Ok(Round::Changed(start + place, next)),
         Round::Stopped => Ok(Round::Stopped),
     }

@@ -46,12 +46,12 @@ returns-clause-ready c =
     let fills = c.in_ok-next.ensures.ok.store in
     let frees = c.drop_implied.ensures.store in
     let came : Follows c.args.watches.now c.add_implied.new.self.store c.args.trail.now =
-        c.law_following.ensures.stored c.args.kernel.now.store c.add_implied.new.self.store c.args.trail.now
-        (attached_came c.args.kernel.now.store c.add_implied.new.self.store c.args.watches.now c.args.trail.now c.in_ok-next.next c.args.new.now c.requires.ready fills) c.requires.ready.follows in
+    c.law_following.ensures.stored c.args.kernel.now.store c.add_implied.new.self.store c.args.trail.now
+    (attached_came c.args.kernel.now.store c.add_implied.new.self.store c.args.watches.now c.args.trail.now c.in_ok-next.next c.args.new.now c.requires.ready fills) c.requires.ready.follows in
     let off : Follows c.detach.new.self c.add_implied.new.self.store c.args.trail.now = (rw c.store.ensures at c.detach.ensures.follows) c.args.trail.now came in
     let went : Follows c.detach.new.self c.drop_implied.new.self.store c.args.trail.now =
-        c.law_following-2.ensures.stored c.add_implied.new.self.store c.drop_implied.new.self.store c.args.trail.now
-        (attached_went c.add_implied.new.self.store c.drop_implied.new.self.store c.args.watches.now c.detach.new.self c.args.id c.detach.ensures.attached frees) off in
+    c.law_following-2.ensures.stored c.add_implied.new.self.store c.drop_implied.new.self.store c.args.trail.now
+    (attached_went c.add_implied.new.self.store c.drop_implied.new.self.store c.args.watches.now c.detach.new.self c.args.id c.detach.ensures.attached frees) off in
     ready_next c.args.kernel.now.store c.add_implied.new.self.store c.drop_implied.new.self.store c.args.watches.now c.detach.new.self c.attach.new.self c.args.trail.now c.args.id c.in_ok-next.next c.args.new.now
     c.requires.ready c.requires.firm c.requires.found.within fills frees c.detach.ensures.attached c.in_ok-attach.ensures.ok (c.attach.ensures.declared ∙ c.detach.ensures.declared) c.requires.keeps
     ((rw c.store-2.ensures at c.attach.ensures.follows) c.args.trail.now went)
