@@ -102,6 +102,7 @@ drops s t by id ne fby d =
       others = d.store.others;
       falls = record { small = omega arith; few = omega arith; two = λ _. omega arith };
       less = omega arith;
+      count = omega arith;
       leaves = d.leaves;
     }
 
@@ -140,6 +141,7 @@ cuts s m t by id next at ne fby fid normal in' h came went =
       free = free_slots (slot s.store by) (slot t.store next) (slot s.store by) (Some (firm_clause new)) refl there x;
       falls = record { small = omega arith; few = omega arith; two = λ _. omega arith };
       less = omega arith;
+      count = omega arith;
       waits = record {
         due = λ k. then'.due k ∙ ap (λ (z : Bool). z && not (eqb id k)) (first.due k);
         fresh = λ k. then'.fresh k ∙ ap (λ (z : Bool). z && not (eqb id k)) (first.fresh k);

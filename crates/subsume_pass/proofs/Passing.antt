@@ -1,7 +1,7 @@
 -- What holds between two turns.
 use Rattle.pass_terms.proofs.Ruling.{for_any, ruled_trans, ruled_weaken}
-use Rattle.std.proofs.Common.{◌≡◌, ℕ, suc, zero, ◌+◌, ◌-◌, ◌*◌, ◌/◌, ◌<◌, ◌≤◌, Bool, true, List, [], length, inl, inr, sym, ap, ◌∙◌, arith, leb}
-use Rattle.std.proofs.Math.Nat.{mul-le-mul_left, mul-le-mul_right, mul-add, mul_assoc, mul-one, mul-div-le}
+use Rattle.std.proofs.Common.{◌≡◌, ℕ, suc, zero, ◌+◌, ◌-◌, ◌*◌, ◌/◌, ◌<◌, ◌≤◌, Bool, true, List, [], length, inl, inr, refl, sym, ap, ◌∙◌, arith, leb}
+use Rattle.std.proofs.Math.Nat.{mul-le-mul_left, mul-le-mul_right, mul-add, mul-one, mul-div-le}
 use Rattle.std.proofs.lemmas.Bool.{leb-true, false≢true, cases_lt}
 use Rattle.sat_terms.specs.Literal.{has}
 use Rattle.clause_store.specs.Stored.{slot, is_firm}
@@ -14,71 +14,142 @@ use Rattle.pass_terms.specs.Ruled.{Ruled, always}
 use Rattle.pass_terms.specs.Ruled.Ruled.{none, more}
 use Rattle.pass_terms.specs.Ruled.Uses.{unmarked}
 use Rattle.subsume_pass.specs.Changing.{size, Falls}
-use Rattle.subsume_pass.specs.Trying.{waits, different, Advances, Stops}
-use Rattle.subsume_pass.specs.Pass.{IsFixpoint, ReachesLimit}
+use Rattle.subsume_pass.specs.Trying.{waits, different, Settles, Advances, Stops}
+use Rattle.subsume_pass.specs.Pass.{IsFixpoint, GoesOn, RunsOut, ReachesLimit}
 use Rattle.subsume_pass.proofs.Setting.{some_lits}
-use Rattle.subsume_pass.proofs.Trying.{falls_none, falls_both}
-use Rattle.subsume_pass.proofs.Waiting.{different_most, different_firm, nil_of}
+use Rattle.subsume_pass.proofs.Trying.{falls_none, falls_same, falls_both}
+use Rattle.subsume_pass.proofs.Waiting.{different_most, different_firm, different_some, nil_of}
 
+-- while nothing changes
+pub record Pausing (s t : State) (a b limit : ℕ) : Type 0 where
+  pub ruled : Ruled always s t
+  pub same : t.store ≡ s.store
+  pub spent : b + length (firm s.store) * waits t.waiting ≤ a + length (firm s.store) * length (firm s.store)
+  pub few : waits t.waiting ≤ length (firm t.store)
+  pub rest : b ≤ limit
+
+pub pausing_none : (s : State) (a limit : ℕ) → waits s.waiting ≤ length (firm s.store) → a ≤ limit → Pausing s s a a limit
+pausing_none s a limit few le = record {
+  ruled = none;
+  same = refl;
+  spent = (let q : length (firm s.store) * waits s.waiting ≤ length (firm s.store) * length (firm s.store) = mul-le-mul_left (length (firm s.store)) few in omega arith);
+  few = few;
+  rest = le;
+}
+
+-- each that waits stands for as many steps as there are clauses
+one_less : (m w w' : ℕ) → w' + 1 ≤ w → m * w' + m ≤ m * w
+one_less m w w' le =
+    let p : m * (w' + 1) ≤ m * w = mul-le-mul_left m le in
+    let r = mul-add m w' 1 in
+    let one = mul-one m in
+    omega arith
+
+module _ (s t : State) (a b limit : ℕ) (h : Pausing s t a b limit) where
+  same_count : length (firm t.store) ≡ length (firm s.store)
+  same_count = ap (λ z. length (firm z)) h.same
+
+  same_size : size t.store ≡ size s.store
+  same_size = ap size h.same
+
+  pub pausing_more : (u : State) (c : ℕ) → Ruled always t u → Settles t u b c limit → Pausing s u a c limit
+  pausing_more u c ruled k =
+      let n = same_count in
+      let fell = k.fell in
+      let o = one_less (length (firm s.store)) (waits t.waiting) (waits u.waiting) fell in
+      let sp = k.spent in
+      let hs = h.spent in
+      let few = h.few in
+      let m : length (firm u.store) ≡ length (firm t.store) = ap (λ z. length (firm z)) k.same in
+      record {
+        ruled = ruled_trans always s t u h.ruled ruled;
+        same = k.same ∙ h.same;
+        spent = omega arith;
+        few = omega arith;
+        rest = k.rest;
+      }
+
+  some_left : (c : ℕ) → 0 < waits t.waiting → c ≤ b + length (firm t.store) → c ≤ a + length (firm s.store) * length (firm s.store)
+  some_left c some le =
+      let n = same_count in
+      let o = one_less (length (firm s.store)) (waits t.waiting) 0 (omega arith) in
+      let hs = h.spent in
+      omega arith
+
+  -- a clause changed
+  pub goes_on : (u : State) (c : ℕ) → 0 < waits t.waiting → Advances t u b c limit → GoesOn s u a c limit
+  goes_on u c some k =
+      let e = same_size in
+      let less = k.less in
+      record {
+        falls = falls_both s.store t.store u.store (falls_same s.store t.store h.same) k.falls;
+        less = omega arith;
+        few = k.few;
+        spent = some_left c some k.spent;
+        rest = k.rest;
+      }
+
+  -- the limit left no step
+  pub runs_out : (u : State) (c : ℕ) → Stops t u b c limit → RunsOut s u a c limit
+  runs_out u c k =
+      let lt = k.some in
+      let l = some_left (c + 1) k.some_waits (omega arith) in
+      record {
+        falls = falls_both s.store t.store u.store (falls_same s.store t.store h.same) k.falls;
+        full = k.full;
+        some = omega arith;
+      }
+
+-- where one waits
+pub some_waits : (t : State) → 0 < length t.waiting.due + length t.waiting.fresh → 0 < waits t.waiting
+some_waits t some =
+    elim (cases_lt 0 (length t.waiting.due)) [
+      | inl lt ↦ (let x = different_some t.waiting.due lt in omega arith)
+      | inr ge ↦ (let x = different_some t.waiting.fresh (omega arith) in omega arith)
+    ]
+
+-- between rounds
 pub record Passing (s t : State) (b limit : ℕ) : Type 0 where
   pub ruled : Ruled always s t
   pub falls : Falls s.store t.store
-  pub spent : b + length (firm s.store) * waits t.waiting ≤ length (firm s.store) * length (firm s.store) * (size s.store - size t.store + 1)
+  pub few : waits t.waiting ≤ length (firm t.store)
+  pub spent : b ≤ length (firm s.store) * length (firm s.store) * (size s.store - size t.store)
   pub rest : b ≤ limit
-
-square : (m n : ℕ) → n ≤ m → m * n ≤ m * m * 1
-square m n le =
-    let a : m * n ≤ m * m = mul-le-mul_left m le in
-    let b = mul-one (m * m) in
-    omega arith
 
 pub passing_none : (s : State) (limit : ℕ) → waits s.waiting ≤ length (firm s.store) → Passing s s 0 limit
 passing_none s limit few = record {
   ruled = none;
   falls = falls_none s.store;
-  spent = (let e : size s.store - size s.store + 1 ≡ 1 = omega arith in rw e (let q = square (length (firm s.store)) (waits s.waiting) few in omega arith));
+  few = few;
+  spent = omega arith;
   rest = omega arith;
 }
 
--- Each that waits is paid for by as many steps as there are clauses. One went, and each two that came are paid for by what fell.
-times_le : (m d : ℕ) → (0 < d → 2 ≤ m) → m * (2 * d) ≤ m * m * d
-times_le m zero two = omega arith
-times_le m (suc d) two =
-    let e = mul_assoc m m (suc d) in
-    let a : 2 * suc d ≤ m * suc d = mul-le-mul_right (suc d) (two (omega arith)) in
-    let b : m * (2 * suc d) ≤ m * (m * suc d) = mul-le-mul_left m a in
-    rw e b
-
-bound_more : (m n g d g' w w' a b : ℕ) → (0 < d → 2 ≤ m) → n ≤ m → w' + 1 ≤ w + 2 * d → g' ≡ g + d → b ≤ a + n → a + m * w ≤ m * m * (g + 1) → b + m * w' ≤ m * m * (g' + 1)
-bound_more m n g d g' w w' a b two nm le eg sp h =
-    let p : m * (w' + 1) ≤ m * (w + 2 * d) = mul-le-mul_left m le in
-    let q = mul-add m w (2 * d) in
-    let r = mul-add m w' 1 in
-    let one = mul-one m in
-    let t = times_le m d two in
-    let x : m * m * (g' + 1) ≡ m * m * (g + 1) + m * m * d = ap (λ (z : ℕ). m * m * z) (let y : g' + 1 ≡ (g + 1) + d = omega arith in y) ∙ mul-add (m * m) (g + 1) d in
+square_le : (n m : ℕ) → n ≤ m → n * n ≤ m * m
+square_le n m le =
+    let a : n * n ≤ n * m = mul-le-mul_left n le in
+    let b : n * m ≤ m * m = mul-le-mul_right m le in
     omega arith
 
-bound_stop : (m n g g' w a b : ℕ) → n ≤ m → 0 < w → g ≤ g' → b < a + n → a + m * w ≤ m * m * (g + 1) → b < m * m * (g' + 1)
-bound_stop m n g g' w a b nm some le sp h =
-    let one = mul-one m in
-    let y : m * 1 ≤ m * w = mul-le-mul_left m (let z : 1 ≤ w = omega arith in z) in
-    let x : m * m * (g + 1) ≤ m * m * (g' + 1) = mul-le-mul_left (m * m) (let z : g + 1 ≤ g' + 1 = omega arith in z) in
+-- a round is paid for by what fell in it
+round_paid : (m n g g' a b : ℕ) → n ≤ m → g + 1 ≤ g' → a ≤ m * m * g → b ≤ a + n * n → b ≤ m * m * g'
+round_paid m n g g' a b le rise h sp =
+    let q = square_le n m le in
+    let x : m * m * (g + 1) ≤ m * m * g' = mul-le-mul_left (m * m) rise in
+    let y = mul-add (m * m) g 1 in
+    let one = mul-one (m * m) in
     omega arith
 
-pub passing_more : (s t u : State) (a b limit : ℕ) → Passing s t a limit → Ruled always t u → Advances t u a b limit → Passing s u b limit
+pub passing_more : (s t u : State) (a b limit : ℕ) → Passing s t a limit → Ruled always t u → GoesOn t u a b limit → Passing s u b limit
 passing_more s t u a b limit h ruled k =
-    let f = k.falls in
-    let small = f.small in
-    let hf = h.falls in
-    let hs = hf.small in
-    let few = hf.few in
-    let paid = k.paid in
+    let hs = h.falls.small in
+    let ks = k.falls.small in
+    let less = k.less in
     record {
       ruled = ruled_trans always s t u h.ruled ruled;
-      falls = falls_both s.store t.store u.store hf f;
-      spent = bound_more (length (firm s.store)) (length (firm t.store)) (size s.store - size t.store) (size t.store - size u.store) (size s.store - size u.store) (waits t.waiting) (waits u.waiting) a b
-          (λ d. let two = f.two (omega arith) in omega arith) few (omega arith) (omega arith) k.spent h.spent;
+      falls = falls_both s.store t.store u.store h.falls k.falls;
+      few = k.few;
+      spent = round_paid (length (firm s.store)) (length (firm t.store)) (size s.store - size t.store) (size s.store - size u.store) a b h.falls.few (omega arith) h.spent k.spent;
       rest = k.rest;
     }
 
@@ -95,13 +166,14 @@ quotient b d g h =
       | inl lt ↦ absurd (let y : d * (g + 1) ≤ d * (b / d) = mul-le-mul_left d (omega arith) in omega arith)
     ]
 
-pub passing_full : (s t u : State) (a b limit : ℕ) → Passing s t a limit → Stops t u a b limit → ReachesLimit s.store u.store limit b
+pub passing_full : (s t u : State) (a b limit : ℕ) → Passing s t a limit → RunsOut t u a b limit → ReachesLimit s.store u.store limit b
 passing_full s t u a b limit h k =
     let small = k.falls.small in
     let hs = h.falls.small in
     let m = length (firm s.store) in
     let g = size s.store - size u.store in
-    let lt : b < m * m * (g + 1) = bound_stop m (length (firm t.store)) (size s.store - size t.store) g (waits t.waiting) a b h.falls.few k.some_waits (omega arith) k.some h.spent in
+    let some = k.some in
+    let lt : b < m * m * (g + 1) = (let p = round_paid m (length (firm t.store)) (size s.store - size t.store) (g + 1) a (b + 1) h.falls.few (omega arith) h.spent (omega arith) in omega arith) in
     let le : m * m * (g + 1) ≤ m * m * (lits_sum s.store + m + 1) = mul-le-mul_left (m * m) (omega arith) in
     let full = k.full in
     record {

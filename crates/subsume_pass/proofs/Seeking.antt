@@ -5,17 +5,18 @@ use Rattle.std.proofs.lemmas.List.{get_or_default}
 use Rattle.sat_terms.specs.Literal.{has}
 use Rattle.clause_store.specs.Stored.{slot, slot_lits, is_firm}
 use Rattle.firm_terms.specs.Subsuming.{IsFree}
-use Rattle.rule_kernel.specs.State.{State}
+use Rattle.rule_kernel.specs.State.{State, IsPromised}
 use Rattle.rule_kernel.specs.Rules.{SameButMarks}
 use Rattle.pass_terms.specs.Ruled.{Ruled, always}
 use Rattle.pass_terms.specs.Ruled.Ruled.{none}
 use Rattle.pass_terms.proofs.Ruling.{ruled_trans}
+use Rattle.firm_terms.specs.Firm.{firm}
 use Rattle.subsume_pass.specs.Choosing.{AreSources}
 use Rattle.subsume_pass.specs.Changing.{size, Cut, Drops}
-use Rattle.subsume_pass.specs.Trying.{different, StaysFree, GoesOut, GetsCut, Halts, Advances, Stops}
+use Rattle.subsume_pass.specs.Trying.{waits, different, StaysFree, GoesOut, GetsCut, Halts, Settles, Advances, Stops}
 use Rattle.subsume_pass.proofs.Clauses.{place}
 use Rattle.subsume_pass.proofs.Trying.{falls_same}
-use Rattle.subsume_pass.proofs.Waiting.{different_le, different_more, different_less, different_swap, different_some}
+use Rattle.subsume_pass.proofs.Waiting.{different_less, different_swap, different_some}
 
 -- while the clauses of ids are compared with one
 pub record Seeking (s t : State) (id : ℕ) (ids : List ℕ) (k a b limit : ℕ) : Type 0 where
@@ -109,44 +110,43 @@ itself_gone : (z : Bool) (id : ℕ) → (z && not (eqb id id)) ≡ false
 itself_gone z id = rw (eq-eqb id id refl) (and_false z)
 
 pub passed_free : (s t u : State) (id : ℕ) (ids : List ℕ) (a b limit : ℕ) → has s.waiting.fresh id ≡ true → AreSources s.store id ids → StaysFree s t id ids a b limit
-    → u.waiting.due ≡ t.waiting.due → ((k : ℕ) → has u.waiting.fresh k ≡ (has t.waiting.fresh k && not (eqb id k))) → SameButMarks t u → Advances s u a b limit
+    → u.waiting.due ≡ t.waiting.due → ((k : ℕ) → has u.waiting.fresh k ≡ (has t.waiting.fresh k && not (eqb id k))) → SameButMarks t u → Settles s u a b limit
 passed_free s t u id ids a b limit there h k due fresh same =
     let sp = k.spent in
     let few = h.few in
-    let e : size u.store ≡ size s.store = ap size same.store ∙ ap (λ (z : State). size z.store) k.same in
     let d : different u.waiting.due ≡ different s.waiting.due = ap different due ∙ ap (λ (z : State). different z.waiting.due) k.same in
     let fresh' : (x : ℕ) → has u.waiting.fresh x ≡ (has s.waiting.fresh x && not (eqb id x)) = λ x. fresh x ∙ ap (λ (z : State). has z.waiting.fresh x && not (eqb id x)) k.same in
     let f = different_less u.waiting.fresh s.waiting.fresh id there (fresh' id ∙ itself_gone (has s.waiting.fresh id) id) (λ x y. first_of (has s.waiting.fresh x) (not (eqb id x)) (sym (fresh' x) ∙ y)) in
     record {
-      falls = falls_same s.store u.store (same.store ∙ ap (λ (z : State). z.store) k.same);
-      paid = omega arith;
+      same = same.store ∙ ap (λ (z : State). z.store) k.same;
+      fell = omega arith;
       spent = omega arith;
       rest = k.rest;
     }
 
-pub passed_went : (s t : State) (id : ℕ) (ids : List ℕ) (a b limit : ℕ) → has s.waiting.fresh id ≡ true → AreSources s.store id ids → GoesOut s t id (length ids) a b limit → Advances s t a b limit
-passed_went s t id ids a b limit there h k =
+pub passed_went : (s t : State) (id : ℕ) (ids : List ℕ) (a b limit : ℕ) → has s.waiting.fresh id ≡ true → IsPromised s → waits s.waiting ≤ length (firm s.store) → AreSources s.store id ids → GoesOut s t id (length ids) a b limit → Advances s t a b limit
+passed_went s t id ids a b limit there p most h k =
     let sp = k.spent in
     let few = h.few in
-    let less = k.drops.less in
+    let count = k.drops.count in
     let l = k.drops.leaves in
-    let d = different_le t.waiting.due s.waiting.due (λ x y. first_of (has s.waiting.due x) (not (eqb id x)) (sym (l.due x) ∙ y)) in
+    let d = different_less t.waiting.due s.waiting.due id (p.within id there) (l.due id ∙ itself_gone (has s.waiting.due id) id) (λ x y. first_of (has s.waiting.due x) (not (eqb id x)) (sym (l.due x) ∙ y)) in
     let f = different_less t.waiting.fresh s.waiting.fresh id there (l.fresh id ∙ itself_gone (has s.waiting.fresh id) id) (λ x y. first_of (has s.waiting.fresh x) (not (eqb id x)) (sym (l.fresh x) ∙ y)) in
-    record { falls = k.drops.falls; paid = omega arith; spent = omega arith; rest = k.rest }
+    record { falls = k.drops.falls; less = k.drops.less; few = omega arith; spent = omega arith; rest = k.rest }
 
 was_there : (a : Bool) (id next x : ℕ) → x ≢ next → ((a || eqb next x) && not (eqb id x)) ≡ true → a ≡ true
 was_there a id next x ne y =
     elim (or_cases a (eqb next x) (first_of (a || eqb next x) (not (eqb id x)) y)) [ inl i ↦ i | inr e ↦ absurd (ne (sym (eqb-true next x e))) ]
 
-pub passed_shrank : (s t : State) (id next : ℕ) (ids : List ℕ) (a b limit : ℕ) → has s.waiting.fresh id ≡ true → AreSources s.store id ids → GetsCut s t id next (length ids) a b limit → Advances s t a b limit
-passed_shrank s t id next ids a b limit there h k =
+pub passed_shrank : (s t : State) (id next : ℕ) (ids : List ℕ) (a b limit : ℕ) → has s.waiting.fresh id ≡ true → IsPromised s → waits s.waiting ≤ length (firm s.store) → AreSources s.store id ids → GetsCut s t id next (length ids) a b limit → Advances s t a b limit
+passed_shrank s t id next ids a b limit there p most h k =
     let sp = k.spent in
     let few = h.few in
-    let less = k.cut.less in
+    let count = k.cut.count in
     let w = k.cut.waits in
-    let d = different_more t.waiting.due s.waiting.due next (λ x y ne. was_there (has s.waiting.due x) id next x ne (sym (w.due x) ∙ y)) in
+    let d = different_swap t.waiting.due s.waiting.due id next (p.within id there) (w.due id ∙ itself_gone (has s.waiting.due id || eqb next id) id) (λ x y ne. was_there (has s.waiting.due x) id next x ne (sym (w.due x) ∙ y)) in
     let f = different_swap t.waiting.fresh s.waiting.fresh id next there (w.fresh id ∙ itself_gone (has s.waiting.fresh id || eqb next id) id) (λ x y ne. was_there (has s.waiting.fresh x) id next x ne (sym (w.fresh x) ∙ y)) in
-    record { falls = k.cut.falls; paid = omega arith; spent = omega arith; rest = k.rest }
+    record { falls = k.cut.falls; less = k.cut.less; few = omega arith; spent = omega arith; rest = k.rest }
 
 pub halted : (s t : State) (id : ℕ) (ids : List ℕ) (a b limit : ℕ) → 0 < length s.waiting.fresh → AreSources s.store id ids → Halts s t (length ids) a b limit → Stops s t a b limit
 halted s t id ids a b limit some h k =

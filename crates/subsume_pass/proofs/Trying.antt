@@ -13,13 +13,13 @@ use Rattle.pass_terms.specs.Ruled.Uses.{unmarked}
 use Rattle.pass_terms.specs.Ruled.Ruled.{none, more}
 use Rattle.pass_terms.proofs.Ruling.{ruled_trans}
 use Rattle.subsume_pass.specs.declared.turn.Turn.{Turn}
-use Rattle.subsume_pass.specs.declared.turn.Turn.TheVariants.{Done, Refuted, Full}
+use Rattle.subsume_pass.specs.declared.turn.Turn.TheVariants.{Done, Changed, Refuted, Full}
 use Rattle.subsume_pass.specs.Choosing.{AreCandidates}
 use Rattle.subsume_pass.specs.Changing.{size, Falls, Cut, Drops}
-use Rattle.subsume_pass.specs.Trying.{different, Keeps, Met, Tested, CameFull, Turned, Advances, Stops}
+use Rattle.subsume_pass.specs.Trying.{different, Keeps, Met, Leaves, Alters, Tested, TestedIdly, TestedWell, CameFull, Turned, Settles, Advances, Stops}
 use Rattle.subsume_pass.proofs.Clauses.{place}
 use Rattle.subsume_pass.proofs.Changing.{free_shrunk, free_slots, firm_none}
-use Rattle.subsume_pass.proofs.Waiting.{different_le, different_more, different_less, different_some, nil_where_none}
+use Rattle.subsume_pass.proofs.Waiting.{different_less, different_some, different_firm, nil_where_none}
 
 -- an id stands at a place from i on
 abbrev pub Ahead : List ℕ → ℕ → ℕ → Type 0
@@ -48,19 +48,15 @@ falls_both s t u h g =
     record { small = omega arith; few = omega arith; two = λ lt. elim (cases_lt (size t) (size s)) [ inl l ↦ h.two l | inr ge ↦ (let k = g.two (omega arith) in omega arith) ] }
 
 pub keeps_none : (s t : State) (by : ℕ) → s.waiting.fresh ≡ [] → t ≡ s → Keeps s t by
-keeps_none s t by nil e = rw e (record { kept = refl; due = λ y. y; fresh = nil; falls = falls_none s.store; paid = omega arith })
+keeps_none s t by nil e = rw e (record { kept = refl; due = λ y. y; fresh = nil; falls = falls_none s.store })
 
 pub keeps_both : (s t u : State) (by : ℕ) → Keeps s t by → Keeps t u by → Keeps s u by
-keeps_both s t u by h g =
-    let a = h.paid in
-    let b = g.paid in
-    record {
-      kept = g.kept ∙ h.kept;
-      due = λ y. g.due (h.due y);
-      fresh = g.fresh;
-      falls = falls_both s.store t.store u.store h.falls g.falls;
-      paid = omega arith;
-    }
+keeps_both s t u by h g = record {
+  kept = g.kept ∙ h.kept;
+  due = λ y. g.due (h.due y);
+  fresh = g.fresh;
+  falls = falls_both s.store t.store u.store h.falls g.falls;
+}
 
 -- the other one went
 pub gone_other : (t : List (Option Stored)) (id k : ℕ) → slot t id ≡ None → is_firm (slot t k) ≡ true → k ≢ id
@@ -78,21 +74,16 @@ nil_left old new id nil h = nil_where_none new (λ k. h k ∙ ap (λ (z : List �
 
 pub keeps_gone : (s t : State) (by id : ℕ) → by ≢ id → s.waiting.fresh ≡ [] → Drops s t id → Keeps s t by
 keeps_gone s t by id ne nil h =
-    let less = h.less in
     let l = h.leaves in
-    let f : t.waiting.fresh ≡ [] = nil_left s.waiting.fresh t.waiting.fresh id nil l.fresh in
-    let d = different_le t.waiting.due s.waiting.due (λ k y. first_of (has s.waiting.due k) (not (eqb id k)) (sym (l.due k) ∙ y)) in
-    let a : different t.waiting.fresh ≡ 0 = ap different f in
     record {
       kept = h.others by ne;
       due = λ y. l.due by ∙ kept_where (has s.waiting.due by) id by (λ e. ne (sym e)) y;
-      fresh = f;
+      fresh = nil_left s.waiting.fresh t.waiting.fresh id nil l.fresh;
       falls = h.falls;
-      paid = omega arith;
     }
 
 -- A shorter one came in its place, and is taken from the fresh ones.
-pub record Settles (t u : State) (next : ℕ) : Type 0 where
+pub record TakenOff (t u : State) (next : ℕ) : Type 0 where
   pub same : SameButMarks t u
   pub due : u.waiting.due ≡ t.waiting.due
   pub fresh : (k : ℕ) → has u.waiting.fresh k ≡ (has t.waiting.fresh k && not (eqb next k))
@@ -118,23 +109,15 @@ two_gone a b id k e = rw e (elim (cases_Bool b) [ inl y ↦ rw y (end (eqb id k)
   end true = refl
   end false = refl
 
-pub keeps_came : (s t u : State) (by id next : ℕ) → by ≢ id → is_firm (slot s.store by) ≡ true → s.waiting.fresh ≡ [] → Cut s t by id next → Settles t u next → Keeps s u by
+pub keeps_came : (s t u : State) (by id next : ℕ) → by ≢ id → is_firm (slot s.store by) ≡ true → s.waiting.fresh ≡ [] → Cut s t by id next → TakenOff t u next → Keeps s u by
 keeps_came s t u by id next ne fby nil h g =
     let same = g.same.store in
-    let less = h.less in
     let w = h.waits in
-    let f : u.waiting.fresh ≡ [] = nil_where_none u.waiting.fresh (λ k. g.fresh k ∙ ap (λ (z : Bool). z && not (eqb next k)) (w.fresh k) ∙ two_gone (has s.waiting.fresh k) (eqb next k) id k (ap (λ (z : List ℕ). has z k) nil)) in
-    let a : different u.waiting.fresh ≡ 0 = ap different f in
-    let d = different_more u.waiting.due s.waiting.due next (λ k y n.
-    let z = first_of (has s.waiting.due k || eqb next k) (not (eqb id k)) (sym (w.due k) ∙ ap (λ (v : List ℕ). has v k) (sym g.due) ∙ y) in
-    elim (or_cases (has s.waiting.due k) (eqb next k) z) [ inl i ↦ i | inr e ↦ absurd (n (sym (eqb-true next k e))) ]) in
-    let si : size u.store ≡ size t.store = ap size same in
     record {
       kept = ap (λ (z : List (Option Stored)). slot z by) same ∙ h.others by ne (λ e. firm_none (slot s.store by) fby (ap (slot s.store) e ∙ h.unused));
       due = λ y. ap (λ (v : List ℕ). has v by) g.due ∙ w.due by ∙ kept_where (has s.waiting.due by || eqb next by) id by (λ e. ne (sym e)) (rw y refl);
-      fresh = f;
+      fresh = nil_where_none u.waiting.fresh (λ k. g.fresh k ∙ ap (λ (z : Bool). z && not (eqb next k)) (w.fresh k) ∙ two_gone (has s.waiting.fresh k) (eqb next k) id k (ap (λ (z : List ℕ). has z k) nil));
       falls = falls_both s.store t.store u.store h.falls (falls_same t.store u.store same);
-      paid = omega arith;
     }
 
 -- a clause met another one
@@ -147,7 +130,7 @@ met_none s t by id nil h = record {
 pub met_gone : (s t : State) (by id : ℕ) → by ≢ id → s.waiting.fresh ≡ [] → Drops s t id → Met s t by id
 met_gone s t by id ne nil h = record { keeps = keeps_gone s t by id ne nil h; free = λ k no f. (let n = gone_other t.store id k h.went f in inl (h.others k n, n)) }
 
-pub met_came : (s t u : State) (by id next : ℕ) → by ≢ id → is_firm (slot s.store by) ≡ true → s.waiting.fresh ≡ [] → Cut s t by id next → Settles t u next → Met s u by id
+pub met_came : (s t u : State) (by id next : ℕ) → by ≢ id → is_firm (slot s.store by) ≡ true → s.waiting.fresh ≡ [] → Cut s t by id next → TakenOff t u next → Met s u by id
 met_came s t u by id next ne fby nil h g =
     let k = keeps_came s t u by id next ne fby nil h g in
     let same = g.same.store in
@@ -160,6 +143,19 @@ met_came s t u by id next ne fby nil h g =
       ];
     }
 
+-- what a comparison did
+pub leaves_none : (s t : State) (by id : ℕ) → s.waiting.fresh ≡ [] → (t ≡ s) × IsFree (slot_lits (slot s.store by)) (slot_lits (slot s.store id)) → Leaves s t by id
+leaves_none s t by id nil h = record { same = h.0; met = met_none s t by id nil h }
+
+pub alters_gone : (s t : State) (by id : ℕ) → by ≢ id → s.waiting.fresh ≡ [] → Drops s t id → Alters s t by id
+alters_gone s t by id ne nil h = record { less = h.less; met = met_gone s t by id ne nil h }
+
+pub alters_came : (s t u : State) (by id next : ℕ) → by ≢ id → is_firm (slot s.store by) ≡ true → s.waiting.fresh ≡ [] → Cut s t by id next → TakenOff t u next → Alters s u by id
+alters_came s t u by id next ne fby nil h g = record {
+  less = (let e : size u.store ≡ size t.store = ap size g.same.store in let l = h.less in omega arith);
+  met = met_came s t u by id next ne fby nil h g;
+}
+
 -- the rules of it
 pub ruled_settled : (s t u : State) → Ruled always s t → SameButMarks t u → Ruled always s u
 ruled_settled s t u r same = more t u r (unmarked same)
@@ -171,6 +167,20 @@ pub record Testing (s t : State) (by : ℕ) (ids : List ℕ) (i a b limit : ℕ)
   pub free : (j : ℕ) → j ≢ by → is_firm (slot t.store j) ≡ true → IsFree (slot_lits (slot t.store by)) (slot_lits (slot t.store j)) ⊎ Ahead ids i j
   pub spent : b ≤ a + i
   pub rest : b ≤ limit
+
+-- whether anything changed
+pub record Flagged (s t : State) (changed : Bool) : Type 0 where
+  pub idle : changed ≡ false → t ≡ s
+  pub less : changed ≡ true → size t.store < size s.store
+
+pub flagged_none : (s : State) → Flagged s s false
+flagged_none s = record { idle = λ e. refl; less = λ e. absurd (false≢true e) }
+
+pub flagged_same : (s t u : State) (changed : Bool) → Flagged s t changed → u ≡ t → Flagged s u changed
+flagged_same s t u changed h e = rw e h
+
+pub flagged_less : (s t u : State) → Falls s.store t.store → size u.store < size t.store → Flagged s u true
+flagged_less s t u f less = record { idle = λ e. absurd (false≢true (sym e)); less = λ e. (let a = f.small in omega arith) }
 
 pub testing_none : (s : State) (by : ℕ) (ids : List ℕ) (a limit : ℕ) → s.waiting.fresh ≡ [] → AreCandidates s.store by ids → a ≤ limit → Testing s s by ids 0 a a limit
 testing_none s by ids a limit nil h le = record {
@@ -235,16 +245,26 @@ tested s t by ids i a b limit past upto h =
       rest = h.rest;
     }
 
+pub tested_idly : (s t : State) (by : ℕ) (ids : List ℕ) (i a b limit : ℕ) (changed : Bool) → changed ≡ false → length ids ≤ i → i ≤ length ids → Testing s t by ids i a b limit → Flagged s t changed → TestedIdly s t by (length ids) a b limit
+tested_idly s t by ids i a b limit changed e past upto h f = record { same = f.idle e; tested = tested s t by ids i a b limit past upto h }
+
+pub tested_well : (s t : State) (by : ℕ) (ids : List ℕ) (i a b limit : ℕ) (changed : Bool) → changed ≡ true → length ids ≤ i → i ≤ length ids → Testing s t by ids i a b limit → Flagged s t changed → TestedWell s t by (length ids) a b limit
+tested_well s t by ids i a b limit changed e past upto h f = record { less = f.less e; tested = tested s t by ids i a b limit past upto h }
+
 pub came_full : (s t : State) (by : ℕ) (ids : List ℕ) (i a b limit : ℕ) → i < length ids → limit ≤ b → Testing s t by ids i a b limit → CameFull (length ids) a b limit
 came_full s t by ids i a b limit in' le h =
     let sp = h.spent in
     let r = h.rest in
     record { full = omega arith; some = omega arith }
 
-pub turned_more : (t : List (Option Stored)) (by m n a b limit : ℕ) (turn : Turn) → m ≤ n → Turned t by m a b limit turn → Turned t by n a b limit turn
-turned_more t by m n a b limit Done le h = let sp = h.spent in record { done = h.done; spent = omega arith; rest = h.rest }
-turned_more t by m n a b limit Refuted le h = h
-turned_more t by m n a b limit Full le h = let so = h.some in record { full = h.full; some = omega arith }
+tested_more : (t : List (Option Stored)) (by m n a b limit : ℕ) → m ≤ n → Tested t by m a b limit → Tested t by n a b limit
+tested_more t by m n a b limit le h = let sp = h.spent in record { done = h.done; spent = omega arith; rest = h.rest }
+
+pub turned_more : (s t : State) (by m n a b limit : ℕ) (turn : Turn) → m ≤ n → Turned s t by m a b limit turn → Turned s t by n a b limit turn
+turned_more s t by m n a b limit Done le h = record { same = h.same; tested = tested_more t.store by m n a b limit le h.tested }
+turned_more s t by m n a b limit Changed le h = record { less = h.less; tested = tested_more t.store by m n a b limit le h.tested }
+turned_more s t by m n a b limit Refuted le h = h
+turned_more s t by m n a b limit Full le h = let so = h.some in record { full = h.full; some = omega arith }
 
 -- the last id of a list
 pub last_read : (ids : List ℕ) (at id : ℕ) → at < length ids → id ≡ get_or ids at id → has ids id ≡ true
@@ -253,24 +273,37 @@ last_read (x ∷ ids) zero id in' read = rw (eq-eqb x id (sym read)) refl
 last_read (x ∷ ids) (suc at) id in' read = rw (last_read ids at id (omega arith) read) (elim (cases_Bool (eqb x id)) [ inl y ↦ rw y refl | inr n ↦ rw n refl ])
 
 -- what was tried is due no longer
-pub advances : (s t u : State) (by a b limit : ℕ) → has s.waiting.due by ≡ true → Keeps s t by → Tested t.store by (length (firm s.store)) a b limit
-    → ((k : ℕ) → has u.waiting.due k ≡ (has t.waiting.due k && not (eqb by k))) → u.waiting.fresh ≡ t.waiting.fresh → SameButMarks t u → Advances s u a b limit
-advances s t u by a b limit there h k due fresh same =
-    let paid = h.paid in
-    let small = h.falls.small in
-    let e : size u.store ≡ size t.store = ap size same.store in
-    let f : different u.waiting.fresh ≡ different t.waiting.fresh = ap different fresh in
-    let gone : has u.waiting.due by ≡ false = due by ∙ rw (eq-eqb by by refl) (none_left (has t.waiting.due by)) in
-    let d = different_less u.waiting.due t.waiting.due by (h.due there) gone (λ x y. first_of (has t.waiting.due x) (not (eqb by x)) (sym (due x) ∙ y)) in
+pub settles : (s t u : State) (by a b limit : ℕ) → has s.waiting.due by ≡ true → TestedIdly s t by (length (firm s.store)) a b limit
+    → ((k : ℕ) → has u.waiting.due k ≡ (has t.waiting.due k && not (eqb by k))) → u.waiting.fresh ≡ t.waiting.fresh → SameButMarks t u → Settles s u a b limit
+settles s t u by a b limit there h due fresh same =
+    let f : different u.waiting.fresh ≡ different s.waiting.fresh = ap different fresh ∙ ap (λ (z : State). different z.waiting.fresh) h.same in
+    let due' : (x : ℕ) → has u.waiting.due x ≡ (has s.waiting.due x && not (eqb by x)) = λ x. due x ∙ ap (λ (z : State). has z.waiting.due x && not (eqb by x)) h.same in
+    let gone : has u.waiting.due by ≡ false = due' by ∙ rw (eq-eqb by by refl) (none_left (has s.waiting.due by)) in
+    let d = different_less u.waiting.due s.waiting.due by there gone (λ x y. first_of (has s.waiting.due x) (not (eqb by x)) (sym (due' x) ∙ y)) in
     record {
-      falls = falls_both s.store t.store u.store h.falls (falls_same t.store u.store same.store);
-      paid = omega arith;
-      spent = k.spent;
-      rest = k.rest;
+      same = same.store ∙ ap (λ (z : State). z.store) h.same;
+      fell = omega arith;
+      spent = h.tested.spent;
+      rest = h.tested.rest;
     } where
       none_left : (z : Bool) → (z && false) ≡ false
       none_left true = refl
       none_left false = refl
+
+-- where clauses changed, those that are due are firm, and none is fresh
+pub advances : (s t u : State) (by a b limit : ℕ) → Keeps s t by → TestedWell s t by (length (firm s.store)) a b limit → u.waiting.fresh ≡ t.waiting.fresh → SameButMarks t u → IsPromised u → Advances s u a b limit
+advances s t u by a b limit h k fresh same p =
+    let e : size u.store ≡ size t.store = ap size same.store in
+    let f : different u.waiting.fresh ≡ 0 = ap different (fresh ∙ h.fresh) in
+    let d = different_firm u.store u.waiting.due p.due in
+    let less = k.less in
+    record {
+      falls = falls_both s.store t.store u.store h.falls (falls_same t.store u.store same.store);
+      less = omega arith;
+      few = omega arith;
+      spent = k.tested.spent;
+      rest = k.tested.rest;
+    }
 
 pub stops : (s t : State) (by a b limit : ℕ) → 0 < length s.waiting.due → Keeps s t by → CameFull (length (firm s.store)) a b limit → Stops s t a b limit
 stops s t by a b limit some h k =

@@ -34,6 +34,7 @@ pub record Cut (s t : State) (by id next : ℕ) : Type 0 where
   pub free : IsFree (slot_lits (slot s.store by)) (slot_lits (slot t.store next))
   pub falls : Falls s.store t.store
   pub less : size t.store < size s.store
+  pub count : length (firm t.store) ≡ length (firm s.store)
   pub waits : Replaces s.waiting t.waiting id next
 
 -- the clause of an id went
@@ -42,6 +43,7 @@ pub record Drops (s t : State) (id : ℕ) : Type 0 where
   pub others : (k : ℕ) → k ≢ id → slot t.store k ≡ slot s.store k
   pub falls : Falls s.store t.store
   pub less : size t.store < size s.store
+  pub count : length (firm t.store) + 1 ≡ length (firm s.store)
   pub leaves : Leaves s.waiting t.waiting id
 
 -- what became of the clause of an id when another one met it

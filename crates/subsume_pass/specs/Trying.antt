@@ -7,7 +7,9 @@ use Rattle.firm_terms.specs.Subsuming.{IsFree, IsDone}
 use Rattle.rule_kernel.specs.Waiting.{Waiting}
 use Rattle.rule_kernel.specs.State.{State}
 use Rattle.subsume_pass.specs.declared.turn.Turn.{Turn}
-use Rattle.subsume_pass.specs.declared.turn.Turn.TheVariants.{Done, Refuted, Full}
+use Rattle.subsume_pass.specs.declared.turn.Turn.TheVariants.{Done, Changed, Refuted, Full}
+use Rattle.subsume_pass.specs.declared.turn.Effect.{Effect}
+use Rattle.subsume_pass.specs.declared.turn.Effect.TheVariants.{Nothing, Something, Empty}
 use Rattle.subsume_pass.specs.declared.fresh.Fate.{Fate}
 use Rattle.subsume_pass.specs.declared.fresh.Fate.TheVariants.{Free, Went, Shrank, Halted}
 use Rattle.subsume_pass.specs.Changing.{size, Falls, Drops, Cut}
@@ -27,12 +29,25 @@ pub record Keeps (s t : State) (by : ℕ) : Type 0 where
   pub due : has s.waiting.due by ≡ true → has t.waiting.due by ≡ true
   pub fresh : t.waiting.fresh ≡ []
   pub falls : Falls s.store t.store
-  pub paid : waits t.waiting + size t.store ≤ waits s.waiting + size s.store
 
 -- A firm clause has met another one: that one is as it was and the two are free, or something else came in its place that is free.
 pub record Met (s t : State) (by id : ℕ) : Type 0 where
   pub keeps : Keeps s t by
   pub free : (other : ℕ) → other ≢ by → is_firm (slot t.store other) ≡ true → ((slot t.store other ≡ slot s.store other) × (other ≢ id)) ⊎ IsFree (slot_lits (slot t.store by)) (slot_lits (slot t.store other))
+
+-- it met it, and all is as it was; or something changed
+pub record Leaves (s t : State) (by id : ℕ) : Type 0 where
+  pub same : t ≡ s
+  pub met : Met s t by id
+
+pub record Alters (s t : State) (by id : ℕ) : Type 0 where
+  pub less : size t.store < size s.store
+  pub met : Met s t by id
+
+abbrev pub Effects : State → State → ℕ → ℕ → Effect → Type 0
+Effects s t by id Nothing = Leaves s t by id
+Effects s t by id Something = Alters s t by id
+Effects s t by id Empty = has_empty (firm t.store) ≡ true
 
 -- a clause was tried on all others, with n steps at most
 pub record Tested (t : List (Option Stored)) (by n a b limit : ℕ) : Type 0 where
@@ -45,11 +60,21 @@ pub record CameFull (n a b limit : ℕ) : Type 0 where
   pub full : b ≡ limit
   pub some : b < a + n
 
+-- nothing changed meanwhile, or something did
+pub record TestedIdly (s t : State) (by n a b limit : ℕ) : Type 0 where
+  pub same : t ≡ s
+  pub tested : Tested t.store by n a b limit
+
+pub record TestedWell (s t : State) (by n a b limit : ℕ) : Type 0 where
+  pub less : size t.store < size s.store
+  pub tested : Tested t.store by n a b limit
+
 -- how it ended
-abbrev pub Turned : List (Option Stored) → ℕ → ℕ → ℕ → ℕ → ℕ → Turn → Type 0
-Turned t by n a b limit Done = Tested t by n a b limit
-Turned t by n a b limit Refuted = has_empty (firm t) ≡ true
-Turned t by n a b limit Full = CameFull n a b limit
+abbrev pub Turned : State → State → ℕ → ℕ → ℕ → ℕ → ℕ → Turn → Type 0
+Turned s t by n a b limit Done = TestedIdly s t by n a b limit
+Turned s t by n a b limit Changed = TestedWell s t by n a b limit
+Turned s t by n a b limit Refuted = has_empty (firm t.store) ≡ true
+Turned s t by n a b limit Full = CameFull n a b limit
 
 -- the clauses of some ids were tried on a clause, and are free of it
 pub record StaysFree (s t : State) (id : ℕ) (ids : List ℕ) (a b limit : ℕ) : Type 0 where
@@ -83,11 +108,18 @@ Fated s t id ids a b limit Went = GoesOut s t id (length ids) a b limit
 Fated s t id ids a b limit (Shrank next) = GetsCut s t id next (length ids) a b limit
 Fated s t id ids a b limit Halted = Halts s t (length ids) a b limit
 
--- What a turn did: one that waited waits no longer, each two that came to wait are paid for by what fell, and there was no more than a step
--- for each firm clause.
+-- What a turn did that changed no clause: one that waited waits no longer, and there was no more than a step for each firm clause.
+pub record Settles (s t : State) (a b limit : ℕ) : Type 0 where
+  pub same : t.store ≡ s.store
+  pub fell : waits t.waiting + 1 ≤ waits s.waiting
+  pub spent : b ≤ a + length (firm s.store)
+  pub rest : b ≤ limit
+
+-- What one did that changed some: no more waits then than there are firm clauses.
 pub record Advances (s t : State) (a b limit : ℕ) : Type 0 where
   pub falls : Falls s.store t.store
-  pub paid : waits t.waiting + 1 + 2 * size t.store ≤ waits s.waiting + 2 * size s.store
+  pub less : size t.store < size s.store
+  pub few : waits t.waiting ≤ length (firm t.store)
   pub spent : b ≤ a + length (firm s.store)
   pub rest : b ≤ limit
 
@@ -100,6 +132,7 @@ pub record Stops (s t : State) (a b limit : ℕ) : Type 0 where
 
 -- how a turn ended
 abbrev pub Passed : State → State → ℕ → ℕ → ℕ → Turn → Type 0
-Passed s t a b limit Done = Advances s t a b limit
+Passed s t a b limit Done = Settles s t a b limit
+Passed s t a b limit Changed = Advances s t a b limit
 Passed s t a b limit Refuted = has_empty (firm t.store) ≡ true
 Passed s t a b limit Full = Stops s t a b limit

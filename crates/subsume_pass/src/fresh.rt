@@ -13,7 +13,8 @@
 ghost use Rattle.std.specs.Prelude.{◌≡◌, ◌≤◌, ◌<◌, length, true, IfOk, OnErr};
 ghost use Rattle.clause_store.specs.Stored.{slot, is_firm};
 ghost use Rattle.pass_terms.specs.Ruled.{Ruled, always};
-ghost use Rattle.subsume_pass.specs.Trying.{Fated, Passed};
+ghost use Rattle.subsume_pass.specs.Trying.{waits, Fated, Passed};
+ghost use Rattle.firm_terms.specs.Firm.{firm};
 
 use crate::candidates::sources;
 use crate::change::{Change, meet};
@@ -68,6 +69,7 @@ fn seek_change(
 /// fresh, and due.
 pub(crate) fn turn_fresh(kernel: &mut Kernel, steps: &mut u64, limit: u64) -> Result<Turn, Memory>
     requires some { 0 < length kernel.old.waiting.fresh }
+    requires few { waits kernel.old.waiting ≤ length (firm kernel.old.store) }
     requires rest { steps.old ≤ limit }
     ensures ruled { Ruled always kernel.old kernel.new }
     ensures passed { IfOk result (λ turn. Passed kernel.old kernel.new steps.old steps.new limit turn) }
@@ -81,13 +83,13 @@ pub(crate) fn turn_fresh(kernel: &mut Kernel, steps: &mut u64, limit: u64) -> Re
             kernel.settle_fresh(id);
             Ok(Turn::Done)
         }
-        Fate::Went => Ok(Turn::Done),
+        Fate::Went => Ok(Turn::Changed),
         Fate::Shrank(next) => {
             let count = kernel.store().get(next).len();
             if count == 0 {
                 return Ok(Turn::Refuted);
             }
-            Ok(Turn::Done)
+            Ok(Turn::Changed)
         }
         Fate::Halted => Ok(Turn::Full),
     }

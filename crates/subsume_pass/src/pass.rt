@@ -10,9 +10,10 @@
 //! lists by the fact that was found. Where nothing waits the pass ends at once. Where more waits than there are clauses, all clauses
 //! become due, which is less: so in a first run none is fresh, and each pair is compared in the one way and in the other at most once.
 //!
-//! It ends, for each turn takes one off, and what comes to wait is paid for by clauses and literals that went. With M firm clauses at
-//! the start, at most M wait, and a turn has at most M steps, so there are at most M M steps to the first change, and from each to the
-//! next; and there are no more changes than there are clauses and literals.
+//! It goes in rounds, and a round ends with the first turn that changes a clause. With M firm clauses at the start of a round, at most M
+//! wait then, a turn that changes nothing takes one off, and each has at most M steps: so a round has at most M M steps. No more than
+//! there are firm clauses wait at its end too: what is fresh is due, so the shorter clause that comes takes the place of the one that
+//! goes in both lists. And there are no more rounds than there are clauses and literals, for each but the last has fewer after it.
 //!
 //! An empty clause ends the pass wherever it is met: it lies within every other clause, and there is nothing left to simplify. Nothing is
 //! parked, so it does not matter which variables are frozen.
@@ -24,7 +25,7 @@ ghost use Rattle.rule_kernel.specs.Rules.{SameButMarks};
 ghost use Rattle.rule_kernel.specs.declared.report.Ended.TheVariants.{Fixpoint};
 ghost use Rattle.pass_terms.specs.Ruled.{Ruled, always};
 ghost use Rattle.subsume_pass.specs.Trying.{waits, Passed};
-ghost use Rattle.subsume_pass.specs.Pass.{IsIdle, Ends};
+ghost use Rattle.subsume_pass.specs.Pass.{IsIdle, Rounded, Ends};
 
 use crate::fresh::turn_fresh;
 use crate::turn::{Turn, turn_due};
@@ -33,6 +34,17 @@ use rule_kernel::frozen::Frozen;
 use rule_kernel::kernel::Kernel;
 use rule_kernel::report::{Ended, PassReport};
 use sat_model::memory::Memory;
+
+// How a round ended.
+#[derive(Clone, Copy)]
+pub(crate) enum Round {
+    // A turn changed a clause.
+    Changed,
+    // None waits, or an empty clause is firm.
+    Quiet,
+    // The limit left no step.
+    Full,
+}
 
 // Whether no more waits than there are firm clauses.
 fn few_wait(kernel: &Kernel) -> bool
@@ -57,6 +69,7 @@ fn let_few_wait(kernel: &mut Kernel)
 // Takes the last of the clauses that are fresh, or, where none is, of those that are due.
 fn one_turn(kernel: &mut Kernel, steps: &mut u64, limit: u64) -> Result<Turn, Memory>
     requires some { 0 < length kernel.old.waiting.due + length kernel.old.waiting.fresh }
+    requires few { waits kernel.old.waiting ≤ length (firm kernel.old.store) }
     requires rest { steps.old ≤ limit }
     ensures ruled { Ruled always kernel.old kernel.new }
     ensures passed { IfOk result (λ turn. Passed kernel.old kernel.new steps.old steps.new limit turn) }
@@ -67,6 +80,25 @@ fn one_turn(kernel: &mut Kernel, steps: &mut u64, limit: u64) -> Result<Turn, Me
     turn_due(kernel, steps, limit)
 }
 
+// Takes clauses that wait, up to the first turn that changes a clause.
+fn one_round(kernel: &mut Kernel, steps: &mut u64, limit: u64) -> Result<Round, Memory>
+    requires few { waits kernel.old.waiting ≤ length (firm kernel.old.store) }
+    requires rest { steps.old ≤ limit }
+    ensures ruled { Ruled always kernel.old kernel.new }
+    ensures rounded { IfOk result (λ round. Rounded kernel.old kernel.new steps.old steps.new limit round) }
+{
+    while kernel.due().len() > 0 || kernel.fresh().len() > 0 {
+        match one_turn(kernel, steps, limit)? {
+            Turn::Done => {}
+            Turn::Changed => return Ok(Round::Changed),
+            Turn::Refuted => return Ok(Round::Quiet),
+            Turn::Full => return Ok(Round::Full),
+        }
+    }
+    kernel.law_promises();
+    Ok(Round::Quiet)
+}
+
 // Takes clauses that wait, until none waits or the steps reach the limit.
 fn work_off(kernel: &mut Kernel, limit: u64) -> Result<Ended, Memory>
     requires few { waits kernel.old.waiting ≤ length (firm kernel.old.store) }
@@ -74,15 +106,13 @@ fn work_off(kernel: &mut Kernel, limit: u64) -> Result<Ended, Memory>
     ensures ended { IfOk result (λ ended. Ends kernel.old kernel.new limit ended) }
 {
     let mut steps = 0;
-    while kernel.due().len() > 0 || kernel.fresh().len() > 0 {
-        match one_turn(kernel, &mut steps, limit)? {
-            Turn::Done => {}
-            Turn::Refuted => return Ok(Ended::Fixpoint),
-            Turn::Full => return Ok(Ended::Limit(steps)),
+    loop {
+        match one_round(kernel, &mut steps, limit)? {
+            Round::Changed => {}
+            Round::Quiet => return Ok(Ended::Fixpoint),
+            Round::Full => return Ok(Ended::Limit(steps)),
         }
     }
-    kernel.law_promises();
-    Ok(Ended::Fixpoint)
 }
 
 /// Drops each firm clause that another one lies within, and shortens each from which a resolution with another one takes a literal away,

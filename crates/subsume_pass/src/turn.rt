@@ -15,13 +15,13 @@
 //! is still to come.
 //!
 //! The clause stays due until it has been tried on all, so that after the limit, and after want of memory, it still waits.
-ghost use Rattle.std.specs.Prelude.{◌≡◌, ◌≢◌, ◌≤◌, ◌<◌, ◌+◌, ◌^◌, ◌==◌, [], length, true, not, ◌&&◌, IfOk, MatchBool, if◌then◌else◌};
+ghost use Rattle.std.specs.Prelude.{◌≡◌, ◌≢◌, ◌≤◌, ◌<◌, ◌+◌, ◌^◌, ◌==◌, [], length, true, not, ◌&&◌, IfOk, if◌then◌else◌};
 ghost use Rattle.sat_terms.specs.Literal.{has};
 ghost use Rattle.clause_store.specs.Stored.{slot, slot_lits, is_firm};
 ghost use Rattle.firm_terms.specs.Firm.{firm, has_empty};
 ghost use Rattle.pass_terms.specs.Ruled.{Ruled, always};
 ghost use Rattle.subsume_pass.specs.Choosing.{AreCandidates};
-ghost use Rattle.subsume_pass.specs.Trying.{Keeps, Met, Turned, Passed};
+ghost use Rattle.subsume_pass.specs.Trying.{Keeps, Effects, Turned, Passed};
 
 use crate::candidates::candidates;
 use crate::change::{Change, meet};
@@ -34,12 +34,25 @@ use sat_model::memory::Memory;
 // How a turn ended.
 #[derive(Clone, Copy)]
 pub(crate) enum Turn {
-    // It is done.
+    // It is done, and no clause changed.
     Done,
+    // It is done, and clauses went or got shorter.
+    Changed,
     // An empty clause is firm.
     Refuted,
     // The limit left no step.
     Full,
+}
+
+// What the comparison of a clause that is due with another one did.
+#[derive(Clone, Copy)]
+pub(crate) enum Effect {
+    // No clause changed.
+    Nothing,
+    // One went or got shorter.
+    Something,
+    // One got empty.
+    Empty,
 }
 
 // Whether an id names a firm clause.
@@ -65,14 +78,13 @@ pub(crate) fn names_other(store: &Store, by: ClauseId, id: ClauseId) -> bool
     names_firm(store, id)
 }
 
-// Compares a clause with another one, where none is fresh: a step. A shorter clause that comes is due. Answers whether no empty clause
-// came.
+// Compares a clause with another one, where none is fresh: a step. A shorter clause that comes is due.
 fn meet_due(
     kernel: &mut Kernel,
     by: ClauseId,
     id: ClauseId,
     steps: &mut u64,
-) -> Result<bool, Memory>
+) -> Result<Effect, Memory>
     requires by { is_firm (slot kernel.old.store by) ≡ true }
     requires id { is_firm (slot kernel.old.store id) ≡ true }
     requires other { by ≢ id }
@@ -81,19 +93,19 @@ fn meet_due(
     ensures ruled { Ruled always kernel.old kernel.new }
     ensures keeps { Keeps kernel.old kernel.new by }
     ensures counted { steps.new ≡ steps.old + 1 }
-    ensures met { IfOk result (λ left. MatchBool left (Met kernel.old kernel.new by id) (has_empty (firm kernel.new.store) ≡ true)) }
+    ensures effects { IfOk result (λ effect. Effects kernel.old kernel.new by id effect) }
 {
     kernel.law_promises();
     match meet(kernel, by, id, steps)? {
-        Change::Kept => Ok(true),
-        Change::Gone => Ok(true),
+        Change::Kept => Ok(Effect::Nothing),
+        Change::Gone => Ok(Effect::Something),
         Change::Came(next) => {
             kernel.settle_fresh(next);
             let count = kernel.store().get(next).len();
             if count == 0 {
-                return Ok(false);
+                return Ok(Effect::Empty);
             }
-            Ok(true)
+            Ok(Effect::Something)
         }
     }
 }
@@ -112,17 +124,23 @@ fn meet_all(
     requires rest { steps.old ≤ limit }
     ensures ruled { Ruled always kernel.old kernel.new }
     ensures keeps { Keeps kernel.old kernel.new by }
-    ensures turned { IfOk result (λ turn. Turned kernel.new.store by (length ids.now) steps.old steps.new limit turn) }
+    ensures turned { IfOk result (λ turn. Turned kernel.old kernel.new by (length ids.now) steps.old steps.new limit turn) }
 {
+    let mut changed = false;
     for id in ids {
         if names_other(kernel.store(), by, *id) {
             if *steps >= limit {
                 return Ok(Turn::Full);
             }
-            if !meet_due(kernel, by, *id, steps)? {
-                return Ok(Turn::Refuted);
+            match meet_due(kernel, by, *id, steps)? {
+                Effect::Nothing => {}
+                Effect::Something => changed = true,
+                Effect::Empty => return Ok(Turn::Refuted),
             }
         }
+    }
+    if changed {
+        return Ok(Turn::Changed);
     }
     Ok(Turn::Done)
 }
@@ -139,7 +157,7 @@ fn try_on_all(
     requires rest { steps.old ≤ limit }
     ensures ruled { Ruled always kernel.old kernel.new }
     ensures keeps { Keeps kernel.old kernel.new by }
-    ensures turned { IfOk result (λ turn. Turned kernel.new.store by (length (firm kernel.old.store)) steps.old steps.new limit turn) }
+    ensures turned { IfOk result (λ turn. Turned kernel.old kernel.new by (length (firm kernel.old.store)) steps.old steps.new limit turn) }
 {
     let count = kernel.store().get(by).len();
     if count == 0 {
@@ -165,6 +183,11 @@ pub(crate) fn turn_due(kernel: &mut Kernel, steps: &mut u64, limit: u64) -> Resu
         Turn::Done => {
             kernel.settle_due(by);
             Ok(Turn::Done)
+        }
+        Turn::Changed => {
+            kernel.settle_due(by);
+            kernel.law_promises();
+            Ok(Turn::Changed)
         }
         Turn::Refuted => Ok(Turn::Refuted),
         Turn::Full => Ok(Turn::Full),

@@ -39,7 +39,7 @@ returns-in-Went-clause-passed c =
     let there = last_there c.fresh-fresh.result.now c.args.kernel.now.waiting.fresh c.index-fresh-fresh.result c.requires.some c.fresh-fresh.ensures c.index-fresh-fresh.is in
     let h : AreSources c.args.kernel.now.store c.index-fresh-fresh.result c.as_slice.result.now = rw c.as_slice.ensures.value c.in_ok-ids.ensures in
     let k : GoesOut c.args.kernel.now c.seek_change.new.kernel c.index-fresh-fresh.result (length c.as_slice.result.now) c.args.steps.now c.seek_change.new.steps c.args.limit = rw c.in-Went.is at c.in_ok-seek_change.ensures.fated in
-    passed_went c.args.kernel.now c.seek_change.new.kernel c.index-fresh-fresh.result c.as_slice.result.now c.args.steps.now c.seek_change.new.steps c.args.limit there h k
+    passed_went c.args.kernel.now c.seek_change.new.kernel c.index-fresh-fresh.result c.as_slice.result.now c.args.steps.now c.seek_change.new.steps c.args.limit there c.law_promises.ensures c.requires.few h k
 
 pub returns-then-count-eq0-clause-passed : goal.returns-then-count-eq0-clause-passed
 returns-then-count-eq0-clause-passed c =
@@ -52,7 +52,7 @@ returns-in-Shrank-clause-passed c =
     let there = last_there c.fresh-fresh.result.now c.args.kernel.now.waiting.fresh c.index-fresh-fresh.result c.requires.some c.fresh-fresh.ensures c.index-fresh-fresh.is in
     let h : AreSources c.args.kernel.now.store c.index-fresh-fresh.result c.as_slice.result.now = rw c.as_slice.ensures.value c.in_ok-ids.ensures in
     let k : GetsCut c.args.kernel.now c.seek_change.new.kernel c.index-fresh-fresh.result c.in-Shrank.next (length c.as_slice.result.now) c.args.steps.now c.seek_change.new.steps c.args.limit = rw c.in-Shrank.is at c.in_ok-seek_change.ensures.fated in
-    passed_shrank c.args.kernel.now c.seek_change.new.kernel c.index-fresh-fresh.result c.in-Shrank.next c.as_slice.result.now c.args.steps.now c.seek_change.new.steps c.args.limit there h k
+    passed_shrank c.args.kernel.now c.seek_change.new.kernel c.index-fresh-fresh.result c.in-Shrank.next c.as_slice.result.now c.args.steps.now c.seek_change.new.steps c.args.limit there c.law_promises.ensures c.requires.few h k
 
 pub returns-clause-passed : goal.returns-clause-passed
 returns-clause-passed c =
