@@ -14,11 +14,25 @@ use Rattle.pass_terms.specs.Ruled.{Ruled, always}
 use Rattle.pass_terms.specs.Ruled.Ruled.{none, more}
 use Rattle.pass_terms.specs.Ruled.Uses.{unmarked}
 use Rattle.subsume_pass.specs.Changing.{size, Falls}
-use Rattle.subsume_pass.specs.Trying.{waits, different, Settles, Advances, Stops}
-use Rattle.subsume_pass.specs.Pass.{IsFixpoint, GoesOn, RunsOut, ReachesLimit}
+use Rattle.subsume_pass.specs.Trying.{waits, different, Refutes, Settles, Advances, Stops}
+use Rattle.subsume_pass.specs.Pass.{IsFixpoint, GoesOn, EndsWell, RunsOut, ReachesLimit}
 use Rattle.subsume_pass.proofs.Setting.{some_lits}
 use Rattle.subsume_pass.proofs.Trying.{falls_none, falls_same, falls_both}
 use Rattle.subsume_pass.proofs.Waiting.{different_most, different_firm, different_some, nil_of}
+
+-- none waits
+pub fixpoint : (t : State) → length t.waiting.due ≤ 0 → length t.waiting.fresh ≤ 0 → IsPromised t → IsFixpoint t
+fixpoint t no_due no_fresh p =
+    let e = nil_of t.waiting.due no_due in
+    let k = nil_of t.waiting.fresh no_fresh in
+    record {
+      reduced = λ none' id f other ne g. p.tried id other f g ne (some_lits t.store id none' f) (ap (λ (z : List ℕ). has z id) e) (ap (λ (z : List ℕ). has z other) k);
+      idle = λ none'. record { due = e; fresh = k };
+    }
+
+-- an empty clause is firm
+pub refuted : (t : State) → has_empty (firm t.store) ≡ true → IsFixpoint t
+refuted t h = record { reduced = λ n. absurd (false≢true (sym n ∙ h)); idle = λ n. absurd (false≢true (sym n ∙ h)) }
 
 -- while nothing changes
 pub record Pausing (s t : State) (a b limit : ℕ) : Type 0 where
@@ -99,6 +113,13 @@ module _ (s t : State) (a b limit : ℕ) (h : Pausing s t a b limit) where
         full = k.full;
         some = omega arith;
       }
+
+  -- an empty clause came, or nothing waits
+  pub ends_refuted : (u : State) (c : ℕ) → 0 < waits t.waiting → Refutes u.store (length (firm t.store)) b c → EndsWell s u a c
+  ends_refuted u c some k = record { fixpoint = refuted u k.empty; spent = some_left c some k.spent }
+
+  pub ends_well : IsFixpoint t → EndsWell s t a b
+  ends_well f = record { fixpoint = f; spent = (let hs = h.spent in omega arith) }
 
 -- where one waits
 pub some_waits : (t : State) → 0 < length t.waiting.due + length t.waiting.fresh → 0 < waits t.waiting
@@ -182,20 +203,6 @@ passing_full s t u a b limit h k =
       fell = quotient b (m * m) g lt;
       below = omega arith;
     }
-
--- none waits
-pub fixpoint : (t : State) → length t.waiting.due ≤ 0 → length t.waiting.fresh ≤ 0 → IsPromised t → IsFixpoint t
-fixpoint t no_due no_fresh p =
-    let e = nil_of t.waiting.due no_due in
-    let k = nil_of t.waiting.fresh no_fresh in
-    record {
-      reduced = λ none' id f other ne g. p.tried id other f g ne (some_lits t.store id none' f) (ap (λ (z : List ℕ). has z id) e) (ap (λ (z : List ℕ). has z other) k);
-      idle = λ none'. record { due = e; fresh = k };
-    }
-
--- an empty clause is firm
-pub refuted : (t : State) → has_empty (firm t.store) ≡ true → IsFixpoint t
-refuted t h = record { reduced = λ n. absurd (false≢true (sym n ∙ h)); idle = λ n. absurd (false≢true (sym n ∙ h)) }
 
 -- how many wait
 pub few_by_length : (s : State) (ids due fresh : List ℕ) → HasEachOnce (firm_at s.store) ids → due ≡ s.waiting.due → fresh ≡ s.waiting.fresh → length due ≤ length ids → leb (length fresh) (length ids - length due) ≡ true → waits s.waiting ≤ length (firm s.store)

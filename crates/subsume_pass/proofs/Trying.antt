@@ -4,7 +4,7 @@ use Rattle.std.proofs.lemmas.Bool.{false≢true, cases_Bool, cases_eq, cases_lt,
 use Rattle.std.proofs.lemmas.List.{get_or_default}
 use Rattle.sat_terms.specs.Literal.{has}
 use Rattle.clause_store.specs.Stored.{Stored, slot, slot_lits, is_firm}
-use Rattle.firm_terms.specs.Firm.{firm}
+use Rattle.firm_terms.specs.Firm.{firm, has_empty}
 use Rattle.firm_terms.specs.Subsuming.{IsFree}
 use Rattle.rule_kernel.specs.State.{State, IsPromised}
 use Rattle.rule_kernel.specs.Rules.{SameButMarks}
@@ -16,7 +16,7 @@ use Rattle.subsume_pass.specs.declared.turn.Turn.{Turn}
 use Rattle.subsume_pass.specs.declared.turn.Turn.TheVariants.{Done, Changed, Refuted, Full}
 use Rattle.subsume_pass.specs.Choosing.{AreCandidates}
 use Rattle.subsume_pass.specs.Changing.{size, Falls, Cut, Drops}
-use Rattle.subsume_pass.specs.Trying.{different, Keeps, Met, Leaves, Alters, Tested, TestedIdly, TestedWell, CameFull, Turned, Settles, Advances, Stops}
+use Rattle.subsume_pass.specs.Trying.{different, Keeps, Met, Leaves, Alters, Tested, TestedIdly, TestedWell, CameFull, Refutes, Turned, Settles, Advances, Stops}
 use Rattle.subsume_pass.proofs.Clauses.{place}
 use Rattle.subsume_pass.proofs.Changing.{free_shrunk, free_slots, firm_none}
 use Rattle.subsume_pass.proofs.Waiting.{different_less, different_some, different_firm, nil_where_none}
@@ -251,6 +251,9 @@ tested_idly s t by ids i a b limit changed e past upto h f = record { same = f.i
 pub tested_well : (s t : State) (by : ℕ) (ids : List ℕ) (i a b limit : ℕ) (changed : Bool) → changed ≡ true → length ids ≤ i → i ≤ length ids → Testing s t by ids i a b limit → Flagged s t changed → TestedWell s t by (length ids) a b limit
 tested_well s t by ids i a b limit changed e past upto h f = record { less = f.less e; tested = tested s t by ids i a b limit past upto h }
 
+pub tested_empty : (s t u : State) (by : ℕ) (ids : List ℕ) (i a b c limit : ℕ) → i < length ids → c ≡ b + 1 → has_empty (firm u.store) ≡ true → Testing s t by ids i a b limit → Refutes u.store (length ids) a c
+tested_empty s t u by ids i a b c limit in' one e h = record { empty = e; spent = (let sp = h.spent in omega arith) }
+
 pub came_full : (s t : State) (by : ℕ) (ids : List ℕ) (i a b limit : ℕ) → i < length ids → limit ≤ b → Testing s t by ids i a b limit → CameFull (length ids) a b limit
 came_full s t by ids i a b limit in' le h =
     let sp = h.spent in
@@ -263,7 +266,7 @@ tested_more t by m n a b limit le h = let sp = h.spent in record { done = h.done
 pub turned_more : (s t : State) (by m n a b limit : ℕ) (turn : Turn) → m ≤ n → Turned s t by m a b limit turn → Turned s t by n a b limit turn
 turned_more s t by m n a b limit Done le h = record { same = h.same; tested = tested_more t.store by m n a b limit le h.tested }
 turned_more s t by m n a b limit Changed le h = record { less = h.less; tested = tested_more t.store by m n a b limit le h.tested }
-turned_more s t by m n a b limit Refuted le h = h
+turned_more s t by m n a b limit Refuted le h = let sp = h.spent in record { empty = h.empty; spent = omega arith }
 turned_more s t by m n a b limit Full le h = let so = h.some in record { full = h.full; some = omega arith }
 
 -- the last id of a list

@@ -30,6 +30,11 @@ pub record GoesOn (s t : State) (a b limit : ℕ) : Type 0 where
   pub spent : b ≤ a + length (firm s.store) * length (firm s.store)
   pub rest : b ≤ limit
 
+-- nothing is left to do
+pub record EndsWell (s t : State) (a b : ℕ) : Type 0 where
+  pub fixpoint : IsFixpoint t
+  pub spent : b ≤ a + length (firm s.store) * length (firm s.store)
+
 -- the limit ended it, where one step more was needed
 pub record RunsOut (s t : State) (a b limit : ℕ) : Type 0 where
   pub falls : Falls s.store t.store
@@ -38,7 +43,7 @@ pub record RunsOut (s t : State) (a b limit : ℕ) : Type 0 where
 
 abbrev pub Rounded : State → State → ℕ → ℕ → ℕ → Round → Type 0
 Rounded s t a b limit Changed = GoesOn s t a b limit
-Rounded s t a b limit Quiet = IsFixpoint t
+Rounded s t a b limit Quiet = EndsWell s t a b
 Rounded s t a b limit Full = RunsOut s t a b limit
 
 -- The pass stopped at its limit, after b steps. With M firm clauses at its start, their number and the sum of their lengths together have

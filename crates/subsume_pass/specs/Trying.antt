@@ -60,6 +60,11 @@ pub record CameFull (n a b limit : ℕ) : Type 0 where
   pub full : b ≡ limit
   pub some : b < a + n
 
+-- an empty clause is firm, after n steps at most
+pub record Refutes (t : List (Option Stored)) (n a b : ℕ) : Type 0 where
+  pub empty : has_empty (firm t) ≡ true
+  pub spent : b ≤ a + n
+
 -- nothing changed meanwhile, or something did
 pub record TestedIdly (s t : State) (by n a b limit : ℕ) : Type 0 where
   pub same : t ≡ s
@@ -73,7 +78,7 @@ pub record TestedWell (s t : State) (by n a b limit : ℕ) : Type 0 where
 abbrev pub Turned : State → State → ℕ → ℕ → ℕ → ℕ → ℕ → Turn → Type 0
 Turned s t by n a b limit Done = TestedIdly s t by n a b limit
 Turned s t by n a b limit Changed = TestedWell s t by n a b limit
-Turned s t by n a b limit Refuted = has_empty (firm t.store) ≡ true
+Turned s t by n a b limit Refuted = Refutes t.store n a b
 Turned s t by n a b limit Full = CameFull n a b limit
 
 -- the clauses of some ids were tried on a clause, and are free of it
@@ -134,5 +139,5 @@ pub record Stops (s t : State) (a b limit : ℕ) : Type 0 where
 abbrev pub Passed : State → State → ℕ → ℕ → ℕ → Turn → Type 0
 Passed s t a b limit Done = Settles s t a b limit
 Passed s t a b limit Changed = Advances s t a b limit
-Passed s t a b limit Refuted = has_empty (firm t.store) ≡ true
+Passed s t a b limit Refuted = Refutes t.store (length (firm s.store)) a b
 Passed s t a b limit Full = Stops s t a b limit

@@ -43,9 +43,12 @@ returns-in-Went-clause-passed c =
 
 pub returns-then-count-eq0-clause-passed : goal.returns-then-count-eq0-clause-passed
 returns-then-count-eq0-clause-passed c =
+    let h : AreSources c.args.kernel.now.store c.index-fresh-fresh.result c.as_slice.result.now = rw c.as_slice.ensures.value c.in_ok-ids.ensures in
     let k : GetsCut c.args.kernel.now c.seek_change.new.kernel c.index-fresh-fresh.result c.in-Shrank.next (length c.as_slice.result.now) c.args.steps.now c.seek_change.new.steps c.args.limit = rw c.in-Shrank.is at c.in_ok-seek_change.ensures.fated in
     let is : c.get-count.result.now ≡ slot_lits (slot c.seek_change.new.kernel.store c.in-Shrank.next) = rw c.store.ensures at c.get-count.ensures.value in
-    refuted_at c.seek_change.new.kernel.store c.in-Shrank.next c.get-count.result.now k.cut.came is c.if-count-eq0.true
+    let few = h.few in
+    let sp = k.spent in
+    record { empty = refuted_at c.seek_change.new.kernel.store c.in-Shrank.next c.get-count.result.now k.cut.came is c.if-count-eq0.true; spent = omega arith }
 
 pub returns-in-Shrank-clause-passed : goal.returns-in-Shrank-clause-passed
 returns-in-Shrank-clause-passed c =

@@ -1,8 +1,9 @@
 use Rattle.std.proofs.Common.{◌<◌, ◌≤◌, ◌+◌, length, ap, arith}
+use Rattle.firm_terms.specs.Firm.{firm}
 use Rattle.pass_terms.proofs.Ruling.{ruled_trans}
 use Rattle.pass_terms.specs.Ruled.{always}
-use Rattle.subsume_pass.specs.Trying.{Settles, Advances, Stops}
-use Rattle.subsume_pass.proofs.Passing.{pausing_none, pausing_more, goes_on, runs_out, some_waits, fixpoint, refuted}
+use Rattle.subsume_pass.specs.Trying.{Refutes, Settles, Advances, Stops}
+use Rattle.subsume_pass.proofs.Passing.{pausing_none, pausing_more, goes_on, runs_out, ends_well, ends_refuted, some_waits, fixpoint}
 use Rattle.subsume_pass.proofs.pass.one_round.Goals as goal
 use Rattle.subsume_pass.proofs.pass.one_round.Goals.{then-due-gt0, else-due-gt0+then-fresh-gt0}
 
@@ -44,4 +45,13 @@ pub returns-clause-rounded : goal.returns-clause-rounded
 returns-clause-rounded c =
     let no_due : length c.loop-kernel.kernel.waiting.due ≤ 0 = omega (arith, c.if-due-gt0.false, ap length c.due.ensures) in
     let no_fresh : length c.loop-kernel.kernel.waiting.fresh ≤ 0 = omega (arith, c.if-fresh-gt0.false, ap length c.fresh.ensures) in
-    fixpoint c.loop-kernel.kernel no_due no_fresh c.law_promises.ensures
+    ends_well c.args.kernel.now c.loop-kernel.kernel c.args.steps.now c.loop-kernel.steps c.args.limit c.loop-kernel.invariant (fixpoint c.loop-kernel.kernel no_due no_fresh c.law_promises.ensures)
+
+pub returns-in-Refuted-clause-rounded : goal.returns-in-Refuted-clause-rounded
+returns-in-Refuted-clause-rounded c =
+    let k : Refutes c.one_turn.new.kernel.store (length (firm c.loop-kernel.kernel.store)) c.loop-kernel.steps c.one_turn.new.steps = rw c.in-Refuted.is at c.in_ok-one_turn.ensures.passed in
+    let some : 0 < length c.loop-kernel.kernel.waiting.due + length c.loop-kernel.kernel.waiting.fresh = elim c.if-due-gt0.branch [
+      | then-due-gt0 w ↦ omega (arith, w.if-due-gt0.true, ap length c.due.ensures)
+      | else-due-gt0+then-fresh-gt0 w ↦ omega (arith, w.if-fresh-gt0.true, ap length w.fresh.ensures)
+    ] in
+    ends_refuted c.args.kernel.now c.loop-kernel.kernel c.args.steps.now c.loop-kernel.steps c.args.limit c.loop-kernel.invariant c.one_turn.new.kernel c.one_turn.new.steps (some_waits c.loop-kernel.kernel some) k

@@ -3,7 +3,7 @@ use Rattle.clause_store.specs.Stored.{slot, is_firm}
 use Rattle.pass_terms.proofs.Ruling.{ruled_trans}
 use Rattle.pass_terms.specs.Ruled.{always}
 use Rattle.subsume_pass.specs.Trying.{Leaves, Alters}
-use Rattle.subsume_pass.proofs.Trying.{testing_none, testing_skip, testing_met, flagged_none, flagged_same, flagged_less, other_of, keeps_both, still_firm, tested_idly, tested_well, came_full}
+use Rattle.subsume_pass.proofs.Trying.{testing_none, testing_skip, testing_met, flagged_none, flagged_same, flagged_less, other_of, keeps_both, still_firm, tested_empty, tested_idly, tested_well, came_full}
 use Rattle.subsume_pass.proofs.turn.meet_all.Goals as goal
 use Rattle.subsume_pass.proofs.turn.meet_all.Goals.{then-names_other+else-steps-limit+in_ok-meet_due+in-Nothing, then-names_other+else-steps-limit+in_ok-meet_due+in-Something, else-names_other}
 
@@ -40,6 +40,11 @@ returns-in-Empty-clause-keeps c = keeps_both c.args.kernel.now c.loop-id.kernel 
 
 pub returns-in-Empty-clause-ruled : goal.returns-in-Empty-clause-ruled
 returns-in-Empty-clause-ruled c = ruled_trans always c.args.kernel.now c.loop-id.kernel c.meet_due.new.kernel c.loop-id.invariant.testing.ruled c.meet_due.ensures.ruled
+
+pub returns-in-Empty-clause-turned : goal.returns-in-Empty-clause-turned
+returns-in-Empty-clause-turned c =
+    tested_empty c.args.kernel.now c.loop-id.kernel c.meet_due.new.kernel c.args.by c.args.ids.now c.loop-id.id-index c.args.steps.now c.loop-id.steps c.meet_due.new.steps c.args.limit c.loop-id-test.true c.meet_due.ensures.counted
+    (rw c.in-Empty.is at c.in_ok-meet_due.ensures.effects) c.loop-id.invariant.testing
 
 pub loop-id-preserved : goal.loop-id-preserved
 loop-id-preserved c =
