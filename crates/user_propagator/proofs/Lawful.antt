@@ -163,8 +163,11 @@ pub stands_told : (t : Meaning) (b after : Board) (l : ℕ) (decision : Bool) �
 stands_told t b after l decision is h =
     let e : Seen = record { lit = l; level = b.level; decision = decision } in
     let last : entry (b.seen ++ e ∷ []) (length b.seen) ≡ e = get_or-append_seam b.seen e [] no_entry in
-    rw is (length b.seen, record {
-      inside = omega (arith, length-append b.seen (e ∷ []));
-      place = ap (λ s. s.lit) last;
-      explained = rw (take-append_seam b.seen (e ∷ []), last) h;
-    })
+    rw is (
+      length b.seen,
+      record {
+        inside = omega (arith, length-append b.seen (e ∷ []));
+        place = ap (λ s. s.lit) last;
+        explained = rw (take-append_seam b.seen (e ∷ []), last) h;
+      },
+    )
