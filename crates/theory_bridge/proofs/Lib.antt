@@ -1,3 +1,5 @@
 pub mod Later
 pub mod Going
 pub mod Asking
+pub mod Standing
+pub mod Following

@@ -4,3 +4,4 @@
 
 pub mod bridge;
 pub mod stop;
+mod telling;

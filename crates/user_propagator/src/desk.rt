@@ -17,7 +17,7 @@
 //! after, or between the answer and the board. Only `watch`, `observe` and `hand` take memory,
 //! and after `Memory` the board is as before.
 ghost use Rattle.std.specs.Prelude.{◌≡◌, ◌==◌, ◌<◌, ◌≤◌, ℕ, true, Some, None, is_some};
-ghost use Rattle.std.specs.Prelude.{OnOk, OnErr, if◌then◌else◌};
+ghost use Rattle.std.specs.Prelude.{OnOk, OnErr, IsTrue, ◌↔◌, [], if◌then◌else◌};
 ghost use Rattle.std.specs.Option.{option_copied};
 ghost use Rattle.sat_terms.specs.Limits.{max_var};
 ghost use Rattle.sat_terms.specs.Literal.{has, var_of};
@@ -186,6 +186,13 @@ impl Desk {
             requests: Requests::new(alloc),
             phases: Vec::new(alloc),
         }
+    }
+
+    /// Whether no variable is observed, so that nothing has to be told but levels.
+    pub fn is_idle(&self) -> bool
+        ensures { IsTrue result ↔ (self.now.observed ≡ []) }
+    {
+        self.notices.is_idle()
     }
 
     /// Observes a variable, and takes the memory of its place and its phase. Nothing changes

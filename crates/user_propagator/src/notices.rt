@@ -15,7 +15,7 @@
 //! the table has places, and no variable stands twice. So the three notices themselves cannot
 //! fail.
 ghost use Rattle.std.specs.Prelude.{◌≡◌, ◌<◌, ◌≤◌, ◌+◌, ℕ, true, [], ◌∷◌, ◌++◌, length, None};
-ghost use Rattle.std.specs.Prelude.{OnOk, OnErr};
+ghost use Rattle.std.specs.Prelude.{OnOk, OnErr, IsTrue, ◌↔◌};
 ghost use Rattle.sat_terms.specs.Limits.{max_var};
 ghost use Rattle.sat_terms.specs.Literal.{has, var_of};
 ghost use Rattle.std.specs.Vec.{vec_capacity};
@@ -126,6 +126,13 @@ impl Notices {
         ensures { result ≡ has self.now.observed var }
     {
         self.observed.has(var)
+    }
+
+    // Whether no variable is observed.
+    pub(crate) fn is_idle(&self) -> bool
+        ensures { IsTrue result ↔ (self.now.observed ≡ []) }
+    {
+        self.observed.as_slice().is_empty()
     }
 
     // The place of a variable's literal, if it was told.
