@@ -1,8 +1,8 @@
 -- What notifications do to a bridge.
-use Rattle.std.specs.Prelude.{ℕ, zero, suc, ◌≡◌, ◌+◌, ◌<◌, ◌≤◌, ◌⊎◌, ◌++◌, None, Bool, true, false, List, length}
+use Rattle.std.specs.Prelude.{ℕ, zero, suc, ◌≡◌, ◌+◌, ◌<◌, ◌≤◌, ◌⊎◌, ◌++◌, None, Bool, true, false, is_some, List, length}
 use Rattle.trail_state.specs.Trail.{Trace, step}
 use Rattle.user_propagator.specs.declared.seen.Seen.{Seen}
-use Rattle.user_propagator.specs.Board.{Board}
+use Rattle.user_propagator.specs.Board.{Board, trail_value}
 use Rattle.user_propagator.specs.Meaning.{Meaning, Notified, KeepsExplained, InStep, next_count}
 use Rattle.user_propagator.specs.Meaning.{put_on, raise_on, cut_to}
 use Rattle.theory_bridge.specs.Shown.{Shown, is_out}
@@ -87,6 +87,13 @@ pub record Walks (t : Trace) (place : ℕ) (s : Shown) : Type 0 where
 pub record AreToldBelow (b : Board) (t : Trace) (level : ℕ) : Type 0 where
   pub each : (i : ℕ) → i < length t.steps → (step t.steps i).level < level
       → is_watched b (step t.steps i) ≡ true → IsTold b.seen (step t.steps i).lit
+
+-- a literal of the desk's level, above the root, that was told
+pub record WasTold (b : Board) (t : Trace) (start place : ℕ) : Type 0 where
+  pub above : 0 < b.level
+  pub after : start ≤ place
+  pub inside : place < length t.steps
+  pub valued : is_some (trail_value b.seen (step t.steps place).lit) ≡ true
 
 -- what a part of the walk does, whatever it answers
 pub record WalksOn (t : Trace) (old new : Shown) : Type 0 where
