@@ -94,6 +94,11 @@ walks_raised t place s u shape w in' on is high = record {
   rest = λ j ge lt. (let low = w.rest place (omega arith) in' in let up = rising 0 t.steps t.level shape.levels place j ge lt in omega arith);
 }
 
+-- the same for the place's level as the code reads it
+pub raised_as : (t : Trace) (place : ℕ) (s u : Shown) (level : ℕ) → level ≡ (step t.steps place).level → IsTrail t.steps t.level → Walks t place s → place < length t.steps → WalksOn t s u
+    → u.board ≡ record s.board { level = u.board.level } → u.board.level ≤ max s.board.level level → Walks t place u
+raised_as t place s u level is shape w in' on desk high = walks_raised t place s u shape w in' on desk (let e = is in omega arith)
+
 pub level_reached : (t : Trace) (place : ℕ) (s u : Shown) → Walks t place s → place < length t.steps → u.board.level ≤ max s.board.level (step t.steps place).level → (step t.steps place).level ≤ u.board.level
     → (step t.steps place).level ≡ u.board.level
 level_reached t place s u w in' high low = let less = w.rest place (omega arith) in' in omega arith
@@ -226,3 +231,18 @@ walking_on t place s u v h on w same = record { walks = w; on = walks_on t s u v
 
 pub walking_out : (t : Trace) (place : ℕ) (s u v : Shown) → IsWalking t place s u → WalksOn t u v → WalksOn t s v
 walking_out t place s u v h on = walks_on t s u v h.on on
+
+-- the same as the code reads it: the step at the place is x
+module _ (t : Trace) (place : ℕ) (s : Shown) (shape : IsTrail t.steps t.level) (sound : IsSeenTrail s.board.observed s.board.seen s.board.level)
+    (w : Walks t place s) (in' : place < length t.steps) (at : (step t.steps place).level ≡ s.board.level) (x : Step) (is : x ≡ step t.steps place) where
+
+  abbrev due_of : Step → Bool
+  due_of y = has s.board.observed (var_of y.lit) && is_none (trail_value s.board.seen y.lit)
+
+  pub told_as : (d : Bool) (u : Shown) → due_of x ≡ true → d ≡ is_decision x.reason → TellsLit x.lit d s u → WalksOn t s u × Walks t (place + 1) u
+  told_as d u =
+      let P : Step → Type 0 = λ y. due_of y ≡ true → d ≡ is_decision y.reason → TellsLit y.lit d s u → WalksOn t s u × Walks t (place + 1) u in
+      subst P (sym is) (λ due flag n. (walks_told t place s shape sound w in' at d u due flag n, walks_next t place s shape sound w in' at d u due flag n))
+
+  pub skip_as : due_of x ≡ false → Walks t (place + 1) s
+  skip_as = subst (λ (y : Step). due_of y ≡ false → Walks t (place + 1) s) (sym is) (walks_skip t place s shape sound w in' at)
