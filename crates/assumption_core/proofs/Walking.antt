@@ -13,10 +13,10 @@ use Rattle.trail_state.specs.declared.trail.Step.{Step}
 use Rattle.trail_state.specs.declared.reason.Reason.TheVariants.{Decision}
 use Rattle.trail_state.specs.Trail.{step, true_on, IsTrail, IsStart}
 use Rattle.trail_state.specs.Clauses.{FalseOn, IsReason}
-use Rattle.rooted_trails.specs.Known.{Known}
+use Rattle.rooted_trails.specs.Known.{everything, Known}
 use Rattle.rooted_trails.specs.Rooted.{Rooted, IsImpliedAt}
 use Rattle.rooted_trails.specs.Marks.{flag, RootFollows, BlockedCore, Grows}
-use Rattle.rooted_trails.proofs.Reasons.{live_implied, root_follows}
+use Rattle.rooted_trails.proofs.Reasons.{live_implied, root_follows, rooted_under}
 use Rattle.rooted_trails.proofs.Blocking.{root_fewer, core_start, core_step, core_keep, core_end}
 use Rattle.assumption_core.specs.declared.cores.CoreStart.{CoreStart}
 use Rattle.assumption_core.specs.declared.cores.CoreStart.TheVariants.{Falsified, Conflict}
@@ -26,13 +26,13 @@ use Rattle.assumption_core.proofs.Marking.{CoversLit, CoversAll}
 
 module _ (s : List (Option Stored)) (t : List Step) (top : ℕ) (rooted : Rooted s t) (shape : IsTrail t top) (test : Assignment → Bool) where
   root : RootFollows (Both s test) t
-  root = root_fewer (Known s) (Both s test) t (λ f h. h.0) (root_follows s t top rooted shape)
+  root = root_fewer (Known s everything) (Both s test) t (λ f h. h.0) (root_follows s everything t top (rooted_under s everything t rooted) shape)
 
   on_front : (l : ℕ) → true_on t l ≡ true → true_on (take (length t) t) l ≡ true
   on_front l h = rw (take_all (length t) t (omega arith)) h
 
   -- a place gives its mark to the literals of its reason
-  pub core_resolved : (i : ℕ) (c : List ℕ) (seen seen' : List Bool) → Implies (Known s) c → IsReason c t i → Grows seen seen' → CoversAll t seen' c → BlockedCore (Both s test) t seen (i + 1) → BlockedCore (Both s test) t seen' i
+  pub core_resolved : (i : ℕ) (c : List ℕ) (seen seen' : List Bool) → Implies (Known s everything) c → IsReason c t i → Grows seen seen' → CoversAll t seen' c → BlockedCore (Both s test) t seen (i + 1) → BlockedCore (Both s test) t seen' i
   core_resolved i c seen seen' implied reason grows covers b =
       core_step (Both s test) t top root shape c seen seen' i (λ f h. implied f h.0) (rw add-one at b) grows (λ l k n. covers l i k (reason.others l k n))
 
@@ -93,7 +93,7 @@ module _ (s : List (Option Stored)) (t : List Step) (falsified : Option ℕ) (se
   asked None e known f all = refl
   asked (Some l) e known f all = true_member f core l all (held.all l (known l refl) (inl e))
 
-  pub core_is : BlockedCore (Both s (asks falsified)) t seen 0 → DecidesAssumed t assumptions → ((l : ℕ) → falsified ≡ Some l → has assumptions l ≡ true) → IsCore (Known s) assumptions core
+  pub core_is : BlockedCore (Both s (asks falsified)) t seen 0 → DecidesAssumed t assumptions → ((l : ℕ) → falsified ≡ Some l → has assumptions l ≡ true) → IsCore (Known s everything) assumptions core
   core_is blocked decides assumed = record {
     some = held.some;
     once = held.once;
@@ -106,7 +106,7 @@ module _ (s : List (Option Stored)) (t : List Step) (falsified : Option ℕ) (se
 -- what the calls of a core give
 pub core_found : {E : Type 0} (s : List (Option Stored)) (t : List Step) (assumptions : List ℕ) (start : CoreStart) (falsified : Option ℕ) (seen : List Bool) (r : Result (List ℕ) E)
     → IsMarked t seen → falsified ≡ falsified_by start → BlockedCore (Both s (asks (falsified_by start))) t seen 0 → DecidesAssumed t assumptions → Starts s t assumptions start
-    → IfOk r (λ core. HoldsNeeded (IsNeeded t falsified seen) assumptions core) → IfOk r (λ core. IsCore (Known s) assumptions core)
+    → IfOk r (λ core. HoldsNeeded (IsNeeded t falsified seen) assumptions core) → IfOk r (λ core. IsCore (Known s everything) assumptions core)
 core_found s t assumptions start falsified seen (Ok core) m is blocked decides starts held =
     core_is s t falsified seen assumptions core m held (rw is blocked) decides (λ l e. falsified_assumed s t assumptions start starts l (sym is ∙ e))
 core_found s t assumptions start falsified seen (Err e) m is blocked decides starts held = tt

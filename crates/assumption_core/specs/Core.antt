@@ -7,7 +7,7 @@ use Rattle.trail_state.specs.declared.trail.Step.{Step}
 use Rattle.trail_state.specs.declared.reason.Reason.TheVariants.{Decision}
 use Rattle.trail_state.specs.Trail.{step, true_on}
 use Rattle.trail_state.specs.Clauses.{FalseOn}
-use Rattle.rooted_trails.specs.Known.{Known}
+use Rattle.rooted_trails.specs.Known.{everything, Known}
 use Rattle.assumption_core.specs.declared.cores.CoreStart.{CoreStart}
 use Rattle.assumption_core.specs.declared.cores.CoreStart.TheVariants.{Falsified, Conflict}
 
@@ -32,4 +32,4 @@ asks (Some lit) f = lit_true f lit
 
 -- what is known of an assignment, and that it passes a test
 abbrev pub Both : List (Option Stored) → (Assignment → Bool) → Assignment → Type 0
-Both s test f = Known s f × (test f ≡ true)
+Both s test f = Known s everything f × (test f ≡ true)

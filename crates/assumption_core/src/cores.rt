@@ -6,7 +6,7 @@
 //! the order of the query and each once, however often it was assumed. It need not be a least one.
 ghost use Rattle.std.specs.Prelude.{◌≡◌, IfOk};
 ghost use Rattle.sat_terms.specs.Answer.{IsCore};
-ghost use Rattle.rooted_trails.specs.Known.{Known};
+ghost use Rattle.rooted_trails.specs.Known.{everything, Known};
 ghost use Rattle.rooted_trails.specs.Rooted.{Rooted};
 ghost use Rattle.assumption_core.specs.Core.{Starts, DecidesAssumed};
 
@@ -43,7 +43,7 @@ pub fn core_of(
     requires rooted { Rooted store.now trail.now.steps }
     requires decisions { DecidesAssumed trail.now.steps assumptions.now }
     requires start { Starts store.now trail.now.steps assumptions.now start }
-    ensures { IfOk result (λ core. IsCore (Known store.now) assumptions.now core) }
+    ensures { IfOk result (λ core. IsCore (Known store.now everything) assumptions.now core) }
 {
     let mut needs = Needs::new(alloc, trail.lits().len())?;
     needs.start(store, trail, assumptions, start);

@@ -9,11 +9,11 @@ use Rattle.sat_terms.proofs.Literals.{neg-neg}
 use Rattle.clause_store.specs.Stored.{Stored, slot, slot_lits}
 use Rattle.trail_state.specs.Trail.{Trace, step, true_on, IsTrail, HasRoom}
 use Rattle.trail_state.specs.Clauses.{FalseOn, IsReason}
-use Rattle.rooted_trails.specs.Known.{Known, AllStandIn}
+use Rattle.rooted_trails.specs.Known.{everything, Known, AllStandIn}
 use Rattle.rooted_trails.specs.Rooted.{Rooted, IsImpliedAt}
 use Rattle.rooted_trails.specs.Marks.{flag, Covered, Grows}
 use Rattle.rooted_trails.proofs.Knowing.{stands_of}
-use Rattle.rooted_trails.proofs.Reasons.{live_implied, root_follows}
+use Rattle.rooted_trails.proofs.Reasons.{live_implied, root_follows, rooted_under}
 use Rattle.conflict_analysis.specs.Learning.{Reaches}
 use Rattle.conflict_analysis.specs.Walking.{Resolvent, marks_on, IsMarking, Resolving, IsUip, IsResolving, IsResolved}
 use Rattle.conflict_analysis.proofs.Walks.{no_decision, marked_down, resolving_step, resolving_skip, resolving_pos, uip_here}
@@ -43,7 +43,7 @@ resolving_begin s tr id c r rooted shape live is above reaches off m covered fro
     let all : take (length tr.steps) tr.steps ≡ tr.steps = take_all (length tr.steps) tr.steps (omega arith) in
     record {
       wide = m.wide;
-      resolving = resolving_start (Known s) tr.steps tr.level c (marks_on r.seen tr.steps) r.count r.lits (root_follows s tr.steps tr.level rooted shape) shape (rw is (live_implied s id live)) above reaches m.marked
+      resolving = resolving_start (Known s everything) tr.steps tr.level c (marks_on r.seen tr.steps) r.count r.lits (root_follows s everything tr.steps tr.level (rooted_under s everything tr.steps rooted) shape) shape (rw is (live_implied s id live)) above reaches m.marked
           (λ l h. covered l h (rw all (off l h)));
       met_all = m.met_all;
       met_false = m.met_false;
@@ -51,14 +51,14 @@ resolving_begin s tr id c r rooted shape live is above reaches off m covered fro
     }
 
 module _ (s : List (Option Stored)) (tr : Trace) (i : ℕ) (r : Resolvent) (w : IsResolving s tr (i + 1) r) (shape : IsTrail tr.steps tr.level) (in' : i < length tr.steps) where
-  before : Resolving (Known s) tr.steps tr.level (suc i) (marks_on r.seen tr.steps) r.count r.lits
+  before : Resolving (Known s everything) tr.steps tr.level (suc i) (marks_on r.seen tr.steps) r.count r.lits
   before = rw add-one at w.resolving
 
   -- a place that is not marked is passed over
   pub resolving_off : flag (marks_on r.seen tr.steps) i ≡ false → IsResolving s tr i r
   resolving_off off = record {
     wide = w.wide;
-    resolving = resolving_skip (Known s) tr.steps tr.level i (marks_on r.seen tr.steps) r.count r.lits before shape in' off;
+    resolving = resolving_skip (Known s everything) tr.steps tr.level i (marks_on r.seen tr.steps) r.count r.lits before shape in' off;
     met_all = w.met_all;
     met_false = w.met_false;
     from = w.from;
@@ -68,14 +68,14 @@ module _ (s : List (Option Stored)) (tr : Trace) (i : ℕ) (r : Resolvent) (w : 
   implied_here more on = record {
     within = in';
     above = before.marked.above_root i on;
-    implied = no_decision (Known s) tr.steps tr.level i (marks_on r.seen tr.steps) r.count r.lits before shape in' more;
+    implied = no_decision (Known s everything) tr.steps tr.level i (marks_on r.seen tr.steps) r.count r.lits before shape in' more;
   }
 
   -- it is done
   pub marking_down : (r' : Resolvent) → r' ≡ record r { count = r.count - 1 } → 1 < r.count → flag (marks_on r.seen tr.steps) i ≡ true → IsMarking tr i r'
   marking_down r' e more on = rw e (record {
     wide = w.wide;
-    marked = marked_down (Known s) tr.steps tr.level i (marks_on r.seen tr.steps) r.count r.lits before shape in' more on;
+    marked = marked_down (Known s everything) tr.steps tr.level i (marks_on r.seen tr.steps) r.count r.lits before shape in' more on;
     met_all = w.met_all;
     met_false = w.met_false;
   })
@@ -88,13 +88,13 @@ module _ (s : List (Option Stored)) (tr : Trace) (i : ℕ) (r : Resolvent) (w : 
         | inr n ↦ reason.others l h n
       ]
 
-  pub resolving_next : (c : List ℕ) (r' : Resolvent) → Rooted s tr.steps → 1 < r.count → Implies (Known s) c → AllStandIn s c → IsReason c tr.steps i → IsMarking tr i r' → Grows r.seen r'.seen
+  pub resolving_next : (c : List ℕ) (r' : Resolvent) → Rooted s tr.steps → 1 < r.count → Implies (Known s everything) c → AllStandIn s c → IsReason c tr.steps i → IsMarking tr i r' → Grows r.seen r'.seen
       → ((l : ℕ) → has c l ≡ true → true_on (take i tr.steps) (neg l) ≡ true → Covered tr.steps (marks_on r'.seen tr.steps) i l)
       → ((l : ℕ) → has r'.met l ≡ true → (has r.met l ≡ true) ⊎ (has c l ≡ true)) → IsResolving s tr i r'
   resolving_next c r' rooted more implied there reason m grows covered from = record {
     wide = m.wide;
-    resolving = resolving_step (Known s) tr.steps tr.level i (marks_on r.seen tr.steps) r.count r.lits before shape in' c (marks_on r'.seen tr.steps) r'.count r'.lits more implied
-        (root_follows s tr.steps tr.level rooted shape) m.marked (marks_grow r.seen r'.seen tr.steps grows) (λ l h n. covered l h (reason.others l h n));
+    resolving = resolving_step (Known s everything) tr.steps tr.level i (marks_on r.seen tr.steps) r.count r.lits before shape in' c (marks_on r'.seen tr.steps) r'.count r'.lits more implied
+        (root_follows s everything tr.steps tr.level (rooted_under s everything tr.steps rooted) shape) m.marked (marks_grow r.seen r'.seen tr.steps grows) (λ l h n. covered l h (reason.others l h n));
     met_all = m.met_all;
     met_false = m.met_false;
     from = stands_more s c r.met r'.met there w.from from;
@@ -107,19 +107,19 @@ module _ (s : List (Option Stored)) (tr : Trace) (i : ℕ) (r : Resolvent) (w : 
     uip = uip;
     met_false = w.met_false;
     from = λ l h.
-        elim (learned_cases (Known s) tr.steps tr.level i (marks_on r.seen tr.steps) r.lits shape uip l h) [
+        elim (learned_cases (Known s everything) tr.steps tr.level i (marks_on r.seen tr.steps) r.lits shape uip l h) [
           | inl a ↦
               let o = uip.lower_only l a in
               w.from l (ap (has r.met) (sym (neg-neg l)) ∙ ap (λ x. has r.met (neg x)) (sym o.2) ∙ w.met_all o.0 o.1 o.3)
           | inr e ↦ w.from l (ap (has r.met) e ∙ w.met_all i in' on)
         ];
   } where
-    uip : IsUip (Known s) tr.steps tr.level i (marks_on r.seen tr.steps) r.lits
-    uip = uip_here (Known s) tr.steps tr.level i (marks_on r.seen tr.steps) r.count r.lits before shape in' on one
+    uip : IsUip (Known s everything) tr.steps tr.level i (marks_on r.seen tr.steps) r.lits
+    uip = uip_here (Known s everything) tr.steps tr.level i (marks_on r.seen tr.steps) r.count r.lits before shape in' on one
 
 -- an open place is left below
 pub place_left : (s : List (Option Stored)) (tr : Trace) (i : ℕ) (r : Resolvent) → IsResolving s tr i r → 0 < i
-place_left s tr i r w = resolving_pos (Known s) tr.steps tr.level i (marks_on r.seen tr.steps) r.count r.lits w.resolving
+place_left s tr i r w = resolving_pos (Known s everything) tr.steps tr.level i (marks_on r.seen tr.steps) r.count r.lits w.resolving
 
 -- the next turn of the walk
 pub walk_on : (s : List (Option Stored)) (tr : Trace) (i : ℕ) (r : Resolvent) → i < length tr.steps → IsResolving s tr i r → (i - 1 < length tr.steps) × IsResolving s tr (i - 1 + 1) r

@@ -15,7 +15,7 @@ ghost use Rattle.sat_terms.specs.Normal.{IsNormal};
 ghost use Rattle.sat_terms.specs.Truth.{Implies};
 ghost use Rattle.clause_store.specs.Stored.{slot, slot_lits};
 ghost use Rattle.trail_state.specs.Clauses.{FalseOn};
-ghost use Rattle.rooted_trails.specs.Known.{Known, AllStandIn};
+ghost use Rattle.rooted_trails.specs.Known.{everything, Known, AllStandIn};
 ghost use Rattle.rooted_trails.specs.Rooted.{Rooted};
 ghost use Rattle.conflict_analysis.specs.Learning.{Reaches, IsAsserting, Owes, Rises, Stops, glue_of};
 ghost use Rattle.conflict_analysis.specs.Walking.{IsResolving};
@@ -84,7 +84,7 @@ pub fn analyze(
     // The learned clause.
     ensures normal { OnOk result (IsNormal scratch.new.lits) }
     ensures is_false { OnOk result (FalseOn trail.now.steps scratch.new.lits) }
-    ensures implied { OnOk result (Implies (Known store.now) scratch.new.lits) }
+    ensures implied { OnOk result (Implies (Known store.now everything) scratch.new.lits) }
     ensures from { OnOk result (AllStandIn store.now scratch.new.lits) }
     ensures owes { IfOk result (λ r. Owes tally.new.owes trail.now.steps trail.now.level scratch.new.lits r.back_level) }
     ensures glue { IfOk result (λ r. r.glue ≡ glue_of trail.now.steps trail.now.level scratch.new.lits) }
@@ -144,7 +144,7 @@ fn learn_first_uip(
     requires reaches { Reaches trail.now.steps trail.now.level (slot_lits (slot store.now conflict)) }
     ensures normal { OnOk result (IsNormal scratch.new.lits) }
     ensures is_false { OnOk result (FalseOn trail.now.steps scratch.new.lits) }
-    ensures implied { OnOk result (Implies (Known store.now) scratch.new.lits) }
+    ensures implied { OnOk result (Implies (Known store.now everything) scratch.new.lits) }
     ensures from { OnOk result (AllStandIn store.now scratch.new.lits) }
     ensures asserting { IfOk result (λ r. IsAsserting trail.now.steps trail.now.level scratch.new.lits r.owed r.learned.back_level) }
     ensures glue { IfOk result (λ r. r.learned.glue ≡ glue_of trail.now.steps trail.now.level scratch.new.lits) }

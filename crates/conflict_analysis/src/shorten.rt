@@ -22,7 +22,7 @@ ghost use Rattle.sat_terms.specs.Literal.{has, var_of};
 ghost use Rattle.trail_state.specs.Trail.{step};
 ghost use Rattle.trail_state.specs.Clauses.{IsReason};
 ghost use Rattle.trail_state.specs.declared.reason.Reason.TheVariants.{Decision};
-ghost use Rattle.rooted_trails.specs.Known.{Known};
+ghost use Rattle.rooted_trails.specs.Known.{everything, Known};
 ghost use Rattle.rooted_trails.specs.Rooted.{Rooted};
 ghost use Rattle.rooted_trails.specs.Marks.{flag, Covered};
 ghost use Rattle.conflict_analysis.specs.Learning.{lit_level};
@@ -92,7 +92,7 @@ impl Scratch {
     fn is_spare(&self, store: &Store, trail: &Trail, lit: Lit) -> bool
         requires wide { trail.now.declared < length self.now.seen }
         requires rooted { Rooted store.now trail.now.steps }
-        ensures { result ≡ true → Follows (Known store.now) trail.now.steps trail.now.level (marks_on self.now.seen trail.now.steps) lit }
+        ensures { result ≡ true → Follows (Known store.now everything) trail.now.steps trail.now.level (marks_on self.now.seen trail.now.steps) lit }
     {
         match implied_place(trail, lit) {
             Some(place) => self.covers(trail, reason_at(store, trail, place), place),
@@ -133,7 +133,7 @@ impl Scratch {
     // Marks a literal that follows from marked ones.
     fn settle(&mut self, store: &Store, trail: &Trail, uip: usize, lit: Lit) -> Result<(), Memory>
         requires resolved { IsResolved store.now trail.now uip self.old }
-        requires follows { Follows (Known store.now) trail.now.steps trail.now.level (marks_on self.old.seen trail.now.steps) lit }
+        requires follows { Follows (Known store.now everything) trail.now.steps trail.now.level (marks_on self.old.seen trail.now.steps) lit }
         ensures resolved { OnOk result (IsResolved store.now trail.now uip self.new) }
         ensures lits { OnOk result (self.new.lits ≡ self.old.lits) }
     {

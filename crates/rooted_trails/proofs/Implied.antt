@@ -8,7 +8,7 @@ use Rattle.trail_state.specs.declared.reason.Reason.{Reason}
 use Rattle.trail_state.specs.declared.reason.Reason.TheVariants.{Decision, Clause, Theory}
 use Rattle.trail_state.specs.Trail.{step}
 use Rattle.trail_state.specs.Clauses.{IsReason}
-use Rattle.rooted_trails.specs.Known.{Known, AllStandIn}
+use Rattle.rooted_trails.specs.Known.{everything, Known, AllStandIn}
 use Rattle.rooted_trails.specs.Rooted.{Rooted, IsImpliedAt, reason_lits}
 use Rattle.rooted_trails.proofs.Knowing.{stands_of}
 use Rattle.rooted_trails.proofs.Rooting.{RootedBy}
@@ -38,7 +38,7 @@ module _ (s : List (Option Stored)) (t : List Step) (i : ℕ) (r : Reason) (root
       pub reason_is : IsReason c t i
       reason_is = rw got by.1
 
-      pub reason_known : Implies (Known s) c
+      pub reason_known : Implies (Known s everything) c
       reason_known = rw got (live_implied s id by.0)
 
       pub reason_from : AllStandIn s c

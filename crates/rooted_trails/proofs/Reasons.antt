@@ -1,7 +1,7 @@
 -- Laws of rooted trails.
-use Rattle.std.proofs.Common.{◌≡◌, ◌≢◌, ℕ, ◌<◌, ◌≤◌, true, List, [], ◌∷◌, ◌++◌, length, take, inl, inr, refl, sym, ap, ◌∙◌, subst, arith, Option}
-use Rattle.std.specs.Prelude.{IsSome}
-use Rattle.std.proofs.lemmas.Bool.{false≢true, eqb-true}
+use Rattle.std.proofs.Common.{◌≡◌, ◌≢◌, ℕ, ◌<◌, ◌≤◌, Bool, true, false, ◌||◌, ◌&&◌, List, [], ◌∷◌, ◌++◌, length, take, ◌⊎◌, inl, inr, refl, sym, ap, ◌∙◌, subst, arith, Option}
+use Rattle.std.specs.Prelude.{IsSome, nat_lt}
+use Rattle.std.proofs.lemmas.Bool.{false≢true, eqb-true, or_cases, or_left, and_parts, cases_Bool, ltb-true}
 use Rattle.std.proofs.lemmas.List.{take-append-le, take_at, take-take, length-take-le}
 use Rattle.std.proofs.Math.Bool.{or-false}
 use Rattle.sat_terms.specs.Literal.{has, neg}
@@ -16,14 +16,14 @@ use Rattle.trail_state.proofs.Changes.{step_old, step_new, old_or_new}
 use Rattle.trail_state.proofs.Backing.{step_take}
 use Rattle.trail_state.proofs.Levels.{decided}
 use Rattle.rooted_trails.specs.Known.{Known}
-use Rattle.rooted_trails.specs.Rooted.{Rooted}
+use Rattle.rooted_trails.specs.Rooted.{rooted_at, Rooted, is_theory, is_given, FollowsAt, RootedUnder}
 use Rattle.rooted_trails.specs.Marks.{RootFollows}
 use Rattle.rooted_trails.proofs.Knowing.{from_known}
-use Rattle.rooted_trails.proofs.Rooting.{RootedBy, rooted_each, rooted_from}
+use Rattle.rooted_trails.proofs.Rooting.{RootedBy, RootedAt, at_says, theory_is, rooted_each, rooted_from}
 use Rattle.rooted_trails.proofs.Falses.{place_in_front, false_by_neg, resolved}
 
 -- a live clause is implied
-pub live_implied : (s : List (Option Stored)) (id : ℕ) → IsSome (slot s id) → Implies (Known s) (slot_lits (slot s id))
+pub live_implied : {admits : Assignment → Bool} (s : List (Option Stored)) (id : ℕ) → IsSome (slot s id) → Implies (Known s admits) (slot_lits (slot s id))
 live_implied s id live f h = from_known s f h id live
 
 -- above the root a step has its reason
@@ -36,19 +36,55 @@ pub follows_by_reason : (F : Assignment → Type 0) (t : List Step) (j : ℕ) (c
 follows_by_reason F t j c imp r f h before =
     resolved f c (step t j).lit (imp f h) (λ l m n. let p = place_in_front j t (neg l) (r.others l m n) in false_by_neg f l (rw (← p.3) (before p.0 p.1)))
 
-root_by : (s : List (Option Stored)) (t : List Step) (j : ℕ) (r : Reason) → r ≢ Decision → RootedBy s t j r → (f : Assignment) → Known s f
+root_by : (s : List (Option Stored)) (admits : Assignment → Bool) (t : List Step) (j : ℕ) (r : Reason) → r ≢ Decision → RootedBy s t j r → (f : Assignment) → Known s admits f
     → ((i : ℕ) → i < j → lit_true f (step t i).lit ≡ true) → lit_true f (step t j).lit ≡ true
-root_by s t j Decision n h f sat before = absurd (n refl)
-root_by s t j (Clause id) n h f sat before = follows_by_reason (Known s) t j (slot_lits (slot s id)) (live_implied s id h.0) h.1 f sat before
-root_by s t j Theory n h f sat before = absurd h
+root_by s admits t j Decision n h f sat before = absurd (n refl)
+root_by s admits t j (Clause id) n h f sat before = follows_by_reason (Known s admits) t j (slot_lits (slot s id)) (live_implied s id h.0) h.1 f sat before
+root_by s admits t j Theory n h f sat before = absurd h
+
+-- what a place of a trail is rooted by, under what is admitted
+pub cases_under : (s : List (Option Stored)) (admits : Assignment → Bool) (t : List Step) (i : ℕ) → RootedUnder s admits t → i < length t → RootedAt s t i ⊎ (((step t i).reason ≡ Theory) × (0 < (step t i).level)) ⊎ FollowsAt admits t i
+cases_under s admits t i rooted in' =
+    elim (cases_Bool (rooted_at s t i || is_given t i)) [
+      | inl yes' ↦
+          elim (or_cases (rooted_at s t i) (is_given t i) yes') [
+            | inl r ↦ inl (at_says s t i r)
+            | inr g ↦
+                let q = and_parts (is_theory (step t i).reason) (nat_lt 0 (step t i).level) g in
+                inr (inl (theory_is (step t i).reason q.0, ltb-true 0 (step t i).level q.1))
+          ]
+      | inr no' ↦ inr (inr (rooted i in' no'))
+    ]
+
+-- above the root a step has its reason, or the theory implied it
+pub under_above : (s : List (Option Stored)) (admits : Assignment → Bool) (t : List Step) (i : ℕ) → RootedUnder s admits t → i < length t → 0 < (step t i).level → (step t i).reason ≢ Theory → RootedBy s t i (step t i).reason
+under_above s admits t i rooted in' pos not' =
+    elim (cases_under s admits t i rooted in') [
+      | inl (inl r) ↦ r
+      | inl (inr u) ↦ absurd (let z = u.0 in omega arith)
+      | inr (inl g) ↦ absurd (not' g.0)
+      | inr (inr r) ↦ absurd (let z = r.root in omega arith)
+    ]
+
+-- a trail that is rooted in the clauses is so whatever is admitted
+pub rooted_under : (s : List (Option Stored)) (admits : Assignment → Bool) (t : List Step) → Rooted s t → RootedUnder s admits t
+rooted_under s admits t rooted i in' out = absurd (false≢true (sym out ∙ or_left (rooted_at s t i) (is_given t i) (rooted i in')))
+
+-- where fewer assignments are admitted the trail is rooted still
+pub under_fewer : (s : List (Option Stored)) (old new : Assignment → Bool) (t : List Step) → ((f : Assignment) → new f ≡ true → old f ≡ true) → RootedUnder s old t → RootedUnder s new t
+under_fewer s old new t fewer rooted i in' out =
+    let r = rooted i in' out in
+    record { root = r.root; follows = λ f a before. r.follows f (fewer f a) before }
 
 -- the literals of the root of a rooted trail follow from what is known
-pub root_follows : (s : List (Option Stored)) (t : List Step) (top : ℕ) → Rooted s t → IsTrail t top → RootFollows (Known s) t
-root_follows s t top rooted shape j in' z f sat before =
-    elim (rooted_each s t rooted j in') [
-      | inl r ↦ root_by s t j (step t j).reason (λ e. let d = decided 0 t top shape.levels j in' e in absurd (omega arith)) r f sat before
-      | inr u ↦ resolved f (slot_lits (slot s u.1.0)) (step t j).lit (live_implied s u.1.0 u.1.1 f sat) (λ l m n.
+pub root_follows : (s : List (Option Stored)) (admits : Assignment → Bool) (t : List Step) (top : ℕ) → RootedUnder s admits t → IsTrail t top → RootFollows (Known s admits) t
+root_follows s admits t top rooted shape j in' z f sat before =
+    elim (cases_under s admits t j rooted in') [
+      | inl (inl r) ↦ root_by s admits t j (step t j).reason (λ e. let d = decided 0 t top shape.levels j in' e in absurd (omega arith)) r f sat before
+      | inl (inr u) ↦ resolved f (slot_lits (slot s u.1.0)) (step t j).lit (live_implied s u.1.0 u.1.1 f sat) (λ l m n.
           absurd (n (sym (only (step t j).lit l (rw u.1.2 at m)))))
+      | inr (inl g) ↦ absurd (let above = g.1 in omega arith)
+      | inr (inr r) ↦ r.follows f sat.admitted before
     ] where
       only : (p l : ℕ) → has (p ∷ []) l ≡ true → p ≡ l
       only p l h = eqb-true p l (rw or-false at h)

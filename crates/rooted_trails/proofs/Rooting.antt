@@ -10,10 +10,10 @@ use Rattle.trail_state.specs.declared.reason.Reason.{Reason}
 use Rattle.trail_state.specs.declared.reason.Reason.TheVariants.{Decision, Clause, Theory}
 use Rattle.trail_state.specs.Trail.{step, true_on}
 use Rattle.trail_state.specs.Clauses.{IsReason}
-use Rattle.rooted_trails.specs.Rooted.{is_reason, has_reason, is_one, is_unit, has_unit, rooted_at, Rooted}
+use Rattle.rooted_trails.specs.Rooted.{is_reason, has_reason, is_one, is_unit, has_unit, rooted_at, Rooted, is_theory}
 
 -- A decision needs no reason. A clause is one if it is live, holds the literal, and its other literals are false at earlier
--- places. No theory is one yet.
+-- places. What a theory implied has none among the clauses.
 abbrev pub RootedBy : List (Option Stored) → List Step → ℕ → Reason → Type 0
 RootedBy s t i Decision = Unit {0}
 RootedBy s t i (Clause id) = IsSome (slot s id) × IsReason (slot_lits (slot s id)) t i
@@ -102,8 +102,14 @@ unit_here [] l id live e = absurd (false≢true live)
 unit_here (x ∷ s) l zero live e = or_left (is_unit l x) (has_unit s l) (unit_passes x l live e)
 unit_here (x ∷ s) l (suc id) live e = or_right (is_unit l x) (has_unit s l) (unit_here s l id live e)
 
+-- the test of what a theory implied
+pub theory_is : (r : Reason) → is_theory r ≡ true → r ≡ Theory
+theory_is Decision h = absurd (false≢true h)
+theory_is (Clause id) h = absurd (false≢true h)
+theory_is Theory h = refl
+
 -- a place that is rooted
-at_says : (s : List (Option Stored)) (t : List Step) (i : ℕ) → rooted_at s t i ≡ true → RootedAt s t i
+pub at_says : (s : List (Option Stored)) (t : List Step) (i : ℕ) → rooted_at s t i ≡ true → RootedAt s t i
 at_says s t i h =
     elim (or_cases (has_reason s t i (step t i).reason) (eqb (step t i).level 0 && has_unit s (step t i).lit) h) [
       | inl r ↦ inl (reason_says s t i (step t i).reason r)

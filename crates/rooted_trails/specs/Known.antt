@@ -5,14 +5,14 @@ use Rattle.sat_terms.specs.Literal.{has}
 use Rattle.sat_terms.specs.Truth.{Assignment}
 use Rattle.clause_store.specs.Stored.{Stored, StoreTrue, slot_lits}
 
--- whether an assignment is admitted beside the clauses: each one is, since nothing but clauses was given
+-- what is admitted where nothing but clauses was given
 abbrev pub everything : Assignment → Bool
 everything f = true
 
 -- an assignment makes the clauses of a store true, and is admitted
-pub record Known (s : List (Option Stored)) (f : Assignment) : Type 0 where
+pub record Known (s : List (Option Stored)) (admits : Assignment → Bool) (f : Assignment) : Type 0 where
   pub clauses : StoreTrue s f
-  pub admitted : everything f ≡ true
+  pub admitted : admits f ≡ true
 
 -- the literal stands in a live clause
 abbrev pub stands_in : List (Option Stored) → ℕ → Bool

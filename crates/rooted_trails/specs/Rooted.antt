@@ -1,8 +1,9 @@
 -- Trails that are rooted in a store: each literal that was not decided has a reason among the clauses. It is a test that
 -- computes, so there is at most one proof of it, and a ghost field can hold that.
 use Rattle.std.specs.List.{list_any, list_all}
-use Rattle.std.specs.Prelude.{◌≡◌, ◌≢◌, ◌<◌, ◌==◌, ◌&&◌, ◌||◌, ℕ, Bool, true, false, List, [], ◌∷◌, length, take, Option, Some, None, is_some}
+use Rattle.std.specs.Prelude.{◌≡◌, ◌≢◌, ◌<◌, ◌==◌, ◌&&◌, ◌||◌, ℕ, Bool, true, false, List, [], ◌∷◌, length, take, Option, Some, None, is_some, nat_lt}
 use Rattle.sat_terms.specs.Literal.{has, neg}
+use Rattle.sat_terms.specs.Truth.{Assignment, lit_true}
 use Rattle.clause_store.specs.Stored.{Stored, slot, slot_lits}
 use Rattle.trail_state.specs.declared.trail.Step.{Step}
 use Rattle.trail_state.specs.declared.reason.Reason.{Reason}
@@ -13,8 +14,8 @@ use Rattle.trail_state.specs.Trail.{step, true_on}
 abbrev pub is_reason : List ℕ → List Step → ℕ → Bool
 is_reason c t i = has c (step t i).lit && list_all (λ l. (l == (step t i).lit) || true_on (take i t) (neg l)) c
 
--- Whether the step at place i has this reason. A decision needs none. A clause must be live and a reason for it. No theory is one
--- yet.
+-- Whether the step at place i has this reason among the clauses. A decision needs none. A clause must be live and a reason for it.
+-- What a theory implied has none there.
 abbrev pub has_reason : List (Option Stored) → List Step → ℕ → Reason → Bool
 has_reason s t i Decision = true
 has_reason s t i (Clause id) = is_some (slot s id) && is_reason (slot_lits (slot s id)) t i
@@ -38,9 +39,28 @@ has_unit s l = list_any (is_unit l) s
 abbrev pub rooted_at : List (Option Stored) → List Step → ℕ → Bool
 rooted_at s t i = has_reason s t i (step t i).reason || (((step t i).level == 0) && has_unit s (step t i).lit)
 
--- every step of the trail is rooted
+-- every step of the trail is rooted in the clauses
 abbrev pub Rooted : List (Option Stored) → List Step → Type 0
 Rooted s t = (i : ℕ) → i < length t → rooted_at s t i ≡ true
+
+-- whether the theory implied the step at a place, above the root: it gives the reason when it is asked for it
+abbrev pub is_theory : Reason → Bool
+is_theory Decision = false
+is_theory (Clause id) = false
+is_theory Theory = true
+
+abbrev pub is_given : List Step → ℕ → Bool
+is_given t i = is_theory (step t i).reason && nat_lt 0 (step t i).level
+
+-- the step at a place stands at the root, and every admitted assignment that makes the literals before it true makes it true
+pub record FollowsAt (admits : Assignment → Bool) (t : List Step) (i : ℕ) : Type 0 where
+  pub root : (step t i).level ≡ 0
+  pub follows : (f : Assignment) → admits f ≡ true → ((j : ℕ) → j < i → lit_true f (step t j).lit ≡ true) → lit_true f (step t i).lit ≡ true
+
+-- Every step of the trail is rooted in the clauses, or a theory that admits just these assignments implied it, or it follows at the
+-- root from what is admitted. There is at most one proof of it.
+abbrev pub RootedUnder : List (Option Stored) → (Assignment → Bool) → List Step → Type 0
+RootedUnder s admits t = (i : ℕ) → i < length t → (rooted_at s t i || is_given t i) ≡ false → FollowsAt admits t i
 
 -- the literals of a reason: those of its clause, if that is live
 abbrev pub reason_lits : List (Option Stored) → Reason → List ℕ

@@ -8,7 +8,7 @@ ghost use Rattle.sat_terms.specs.Truth.{Implies};
 ghost use Rattle.trail_state.specs.Trail.{step};
 ghost use Rattle.trail_state.specs.Clauses.{IsReason};
 ghost use Rattle.trail_state.specs.declared.reason.Reason.TheVariants.{Decision};
-ghost use Rattle.rooted_trails.specs.Known.{Known, AllStandIn};
+ghost use Rattle.rooted_trails.specs.Known.{everything, Known, AllStandIn};
 ghost use Rattle.rooted_trails.specs.Rooted.{Rooted, IsImpliedAt, reason_lits};
 
 use clause_store::store::Store;
@@ -23,7 +23,7 @@ pub fn reason_at<'a>(store: &'a Store, trail: &Trail, place: usize) -> &'a [Lit]
     requires implied { IsImpliedAt trail.now.steps place }
     ensures value { result.now ≡ reason_lits store.now (step trail.now.steps place).reason }
     ensures reason { IsReason result.now trail.now.steps place }
-    ensures known { Implies (Known store.now) result.now }
+    ensures known { Implies (Known store.now everything) result.now }
     ensures from { AllStandIn store.now result.now }
 {
     // A trail has fewer than 2^32 places.

@@ -18,12 +18,12 @@ use Rattle.trail_state.specs.Clauses.{FalseOn, IsUnit}
 use Rattle.trail_state.proofs.Backing.{step_take}
 use Rattle.trail_state.proofs.Changes.{step_old, step_new, old_or_new}
 use Rattle.trail_state.proofs.Places.{place_of_true}
-use Rattle.rooted_trails.specs.Known.{Known}
+use Rattle.rooted_trails.specs.Known.{everything, Known}
 use Rattle.rooted_trails.specs.Rooted.{Rooted}
 use Rattle.rooted_trails.proofs.Knowing.{known_more}
 use Rattle.rooted_trails.proofs.Falses.{not_all_false, false_by_neg}
 use Rattle.rooted_trails.proofs.Blocking.{root_true}
-use Rattle.rooted_trails.proofs.Reasons.{rooted_back, rooted_push, rooted_filled, live_filled, live_implied, unit_reason, root_follows}
+use Rattle.rooted_trails.proofs.Reasons.{rooted_back, rooted_push, rooted_filled, live_filled, live_implied, unit_reason, root_follows, rooted_under}
 use Rattle.watch_lists.specs.Propagation.{Watching, Follows}
 use Rattle.conflict_analysis.specs.Counting.{Counted}
 use Rattle.conflict_analysis.specs.Walking.{Resolvent}
@@ -58,7 +58,7 @@ false_within t c room off k d in' = false_named t (get_or c k d) room (off (get_
 
 -- a redundant clause more in the store
 module _ (s s' : List (Option Stored)) (id : ℕ) (c : Stored) (fills : Fills s s' id c) where
-  pub learns_filled : is_firm (Some c) ≡ false → Implies (Known s) c.lits → Learns s s'
+  pub learns_filled : is_firm (Some c) ≡ false → Implies (Known s everything) c.lits → Learns s s'
   learns_filled soft implied = record {
     firm = λ k h. fills.others k (λ e. false≢true (sym (ap is_firm (ap (slot s) e ∙ fills.free)) ∙ h));
     no_more = λ k h. fills.others k (λ e. false≢true (sym soft ∙ sym (ap is_firm (ap (slot s') e ∙ fills.filled)) ∙ h));
@@ -132,7 +132,7 @@ keeps_back assumptions core t o p w tally scratch level ready back same size fol
 
 -- where a clause is false at the root, nothing that is known can be
 pub root_conflict : (assumptions : List ℕ) (s : List (Option Stored)) (t : List Step) (top id level : ℕ) → Rooted s t → IsTrail t top → IsSome (slot s id) → FalseOn t (slot_lits (slot s id))
-    → ((l : ℕ) → has (slot_lits (slot s id)) l ≡ true → lit_level t l ≤ level) → level ≡ 0 → IsCore (Known s) assumptions []
+    → ((l : ℕ) → has (slot_lits (slot s id)) l ≡ true → lit_level t l ≤ level) → level ≡ 0 → IsCore (Known s everything) assumptions []
 root_conflict assumptions s t top id level rooted shape live off low zero' = record {
   some = none assumptions;
   once = λ i j d lt in'. absurd (omega arith);
@@ -141,7 +141,7 @@ root_conflict assumptions s t top id level rooted shape live off low zero' = rec
       let p = place_of_true t (neg l) (off l m) in
       let e = level_here t top l p.0 shape p.1 (ap var_of p.2 ∙ var_of-neg l) in
       let le = low l m in
-      false_by_neg f l (rw (← p.2) (root_true (Known s) t top (root_follows s t top rooted shape) shape f known (suc p.0) p.0 (omega arith) p.1 (omega arith))));
+      false_by_neg f l (rw (← p.2) (root_true (Known s everything) t top (root_follows s everything t top (rooted_under s everything t rooted) shape) shape f known (suc p.0) p.0 (omega arith) p.1 (omega arith))));
 } where
   none : (xs : List ℕ) → IsSubsequence [] xs
   none [] = refl
@@ -155,7 +155,7 @@ pub record Taught (assumptions : List ℕ) (core : Core) (s : List (Option Store
   pub room : HasRoom core.trail
   pub fills : Fills core.store s id c
   pub soft : is_firm (Some c) ≡ false
-  pub implied : Implies (Known core.store) c.lits
+  pub implied : Implies (Known core.store everything) c.lits
   pub off : FalseOn core.trail.steps c.lits
   pub asserts : IsAsserting core.trail.steps core.trail.level c.lits lit level
 
@@ -225,7 +225,7 @@ module _ {assumptions : List ℕ} {core : Core} {s : List (Option Stored)} {id :
 
 -- the same, as the code reads it
 pub taught_by : {assumptions : List ℕ} {core : Core} {s : List (Option Stored)} {id lit level : ℕ} {c : Stored} {lits : List ℕ} → IsReady assumptions core → AssumesFirst assumptions core.trail.steps → IsTrail core.trail.steps core.trail.level
-    → HasRoom core.trail → Fills core.store s id c → is_firm (Some c) ≡ false → c.lits ≡ lits → Implies (Known core.store) lits → FalseOn core.trail.steps lits
+    → HasRoom core.trail → Fills core.store s id c → is_firm (Some c) ≡ false → c.lits ≡ lits → Implies (Known core.store everything) lits → FalseOn core.trail.steps lits
     → (owes : Owes core.tally.owes core.trail.steps core.trail.level lits level) → owes.lit ≡ lit → Taught assumptions core s id c lit level
 taught_by {assumptions} {core} {s} {id} {lit} {level} {c} {lits} ready first shape room fills soft same implied off owes is = record {
   ready = ready;

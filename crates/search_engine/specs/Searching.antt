@@ -9,7 +9,7 @@ use Rattle.clause_store.specs.Listing.{times}
 use Rattle.trail_state.specs.declared.trail.Step.{Step}
 use Rattle.trail_state.specs.Trail.{Trace, true_on, value_on}
 use Rattle.decide_order.specs.Ordering.{Ordered, is_active, Follows as FindsFree}
-use Rattle.rooted_trails.specs.Known.{Known}
+use Rattle.rooted_trails.specs.Known.{everything, Known}
 use Rattle.rooted_trails.specs.Rooted.{Rooted}
 use Rattle.watch_lists.specs.Propagation.{Follows}
 use Rattle.conflict_analysis.specs.Counting.{Counted, IsDue}
@@ -74,7 +74,7 @@ pub record IsAtRest (c : Core) : Type 0 where
 pub record Learns (old new : List (Option Stored)) : Type 0 where
   pub firm : (id : ℕ) → is_firm (slot old id) ≡ true → slot new id ≡ slot old id
   pub no_more : (id : ℕ) → is_firm (slot new id) ≡ true → slot new id ≡ slot old id
-  pub implied : (f : Assignment) → Known old f → Known new f
+  pub implied : (f : Assignment) → Known old everything f → Known new everything f
 
 -- What a search keeps, whatever it answers.
 pub record Keeps (old new : Core) : Type 0 where
@@ -112,5 +112,5 @@ pub record IsSpent (n : ℕ) (t : Counted) : Type 0 where
 -- what is found
 abbrev pub FoundIs : List ℕ → Core → Core → Found → Type 0
 FoundIs assumptions old new found.Sat = HasModel assumptions old new
-FoundIs assumptions old new (found.Unsat core) = IsCore (Known (clauses old)) assumptions core
+FoundIs assumptions old new (found.Unsat core) = IsCore (Known (clauses old) everything) assumptions core
 FoundIs assumptions old new (found.Spent (Conflicts n)) = IsSpent n new.tally

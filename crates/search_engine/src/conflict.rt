@@ -23,7 +23,7 @@ ghost use Rattle.clause_store.specs.declared.stored.Keep.TheVariants.{Redundant}
 ghost use Rattle.clause_store.specs.Stored.{slot, slot_lits, Fills, SameSlots};
 ghost use Rattle.trail_state.specs.Trail.{Trace};
 ghost use Rattle.trail_state.specs.Clauses.{FalseOn};
-ghost use Rattle.rooted_trails.specs.Known.{Known};
+ghost use Rattle.rooted_trails.specs.Known.{everything, Known};
 ghost use Rattle.watch_lists.specs.Propagation.{Follows};
 ghost use Rattle.conflict_analysis.specs.Learning.{Owes};
 ghost use Rattle.decide_order.specs.Ordering.{SameVars, KeepsFollowing};
@@ -185,7 +185,7 @@ fn assert_learned(state: &mut Core, assumptions: &[Lit], learned: Learned) -> Re
     requires first { AssumesFirst assumptions.now state.old.trail.steps }
     requires normal { IsNormal state.old.scratch.lits }
     requires is_false { FalseOn state.old.trail.steps state.old.scratch.lits }
-    requires implied { Implies (Known (clauses state.old)) state.old.scratch.lits }
+    requires implied { Implies (Known (clauses state.old) everything) state.old.scratch.lits }
     requires owes { Owes state.old.tally.owes state.old.trail.steps state.old.trail.level state.old.scratch.lits learned.back_level }
     requires unspent { state.old.tally.is_spent ≡ false }
     ensures stands { OnOk result (IsBetweenTurns assumptions.now state.new) }

@@ -1,0 +1,4 @@
+pub mod Mirrors
+pub mod Rows
+pub mod Finding
+pub mod Standing
