@@ -7,7 +7,7 @@ use Rattle.trail_state.specs.declared.trail.Step.{Step}
 use Rattle.trail_state.specs.declared.reason.Reason.TheVariants.{Decision}
 use Rattle.trail_state.specs.Trail.{step, true_on}
 use Rattle.trail_state.specs.Clauses.{FalseOn}
-use Rattle.rooted_trails.specs.Known.{everything, Known}
+use Rattle.rooted_trails.specs.Known.{Known}
 use Rattle.assumption_core.specs.declared.cores.CoreStart.{CoreStart}
 use Rattle.assumption_core.specs.declared.cores.CoreStart.TheVariants.{Falsified, Conflict}
 
@@ -31,5 +31,5 @@ asks None f = true
 asks (Some lit) f = lit_true f lit
 
 -- what is known of an assignment, and that it passes a test
-abbrev pub Both : List (Option Stored) → (Assignment → Bool) → Assignment → Type 0
-Both s test f = Known s everything f × (test f ≡ true)
+abbrev pub Both : List (Option Stored) → (Assignment → Bool) → (Assignment → Bool) → Assignment → Type 0
+Both s admits test f = Known s admits f × (test f ≡ true)

@@ -7,11 +7,17 @@
 //! what was false at the start (the final analysis of MiniSat: Eén and Sörensson 2003). It is no
 //! resolution to a first unique implication point: that stops at the current level, and here all
 //! levels count.
-ghost use Rattle.std.specs.Prelude.{◌≡◌, ◌<◌, ◌+◌, ℕ, Bool, Some, None, true, false, take, length, IfOk};
+//!
+//! A literal that the theory implied has a reason too, for which the box is asked when the walk comes
+//! to it. What the box admits may fall with each question, and what was blocked stays so.
+ghost use Rattle.std.specs.Prelude.{◌≡◌, ◌<◌, ◌+◌, ℕ, Bool, Some, None, true, false, take, length, IfOk, IfErr, OnOk};
 ghost use Rattle.sat_terms.specs.Literal.{has, neg};
 ghost use Rattle.sat_terms.specs.Truth.{Assignment};
 ghost use Rattle.trail_state.specs.Trail.{step, true_on};
-ghost use Rattle.rooted_trails.specs.Rooted.{Rooted};
+ghost use Rattle.rooted_trails.specs.Rooted.{RootedUnder};
+ghost use Rattle.theory_bridge.specs.Shown.{facing};
+ghost use Rattle.theory_bridge.specs.Going.{Asked, Ended};
+ghost use Rattle.lazy_reasons.specs.Facing.{IsReady, IsAskDue};
 ghost use Rattle.rooted_trails.specs.Marks.{flag, AboveRoot, BlockedCore, Covered, Grows};
 ghost use Rattle.assumption_core.specs.Core.{Both, Starts, asks, falsified_by};
 ghost use Rattle.assumption_core.specs.Needs.{IsMarked, IsDecided, IsNeeded, Takes, HoldsNeeded};
@@ -19,11 +25,14 @@ ghost use Rattle.assumption_core.specs.Needs.{IsMarked, IsDecided, IsNeeded, Tak
 use crate::cores::CoreStart;
 use crate::places::{decided_at, place_above_root};
 use clause_store::store::Store;
-use rooted_trails::reading::{is_decision, reason_at};
+use lazy_reasons::source::source_at;
+use rooted_trails::reading::is_decision;
 use sat_model::lists::Lits;
 use sat_model::literal::Lit;
 use sat_model::memory::Memory;
 use std::alloc::Global;
+use theory_bridge::bridge::Bridge;
+use theory_bridge::stop::AskStop;
 use trail_state::trail::Trail;
 
 // What a core needs: the falsified assumption, if there is one, and the decisions at the marked
@@ -89,13 +98,13 @@ impl Needs {
         assumptions: &[Lit],
         start: CoreStart,
     )
-        requires rooted { Rooted store.now trail.now.steps }
         requires marked { IsMarked trail.now.steps self.old.places.items }
         requires no_literal { self.old.falsified ≡ None }
         requires start { Starts store.now trail.now.steps assumptions.now start }
         ensures falsified { self.new.falsified ≡ falsified_by start }
         ensures marked { IsMarked trail.now.steps self.new.places.items }
-        ensures blocked { BlockedCore (Both store.now (asks (falsified_by start))) trail.now.steps self.new.places.items (length trail.now.steps) }
+        ensures blocked { (admits : Assignment → Bool) → RootedUnder store.now admits trail.now.steps
+            → BlockedCore (Both store.now admits (asks (falsified_by start))) trail.now.steps self.new.places.items (length trail.now.steps) }
     {
         trail.law_shape();
         match start {
@@ -107,42 +116,67 @@ impl Needs {
         }
     }
 
-    // Marks what implied the literal at a place, if that is marked and no decision.
-    fn resolve(&mut self, store: &Store, trail: &Trail, place: usize)
+    // Marks what implied the literal at a place, if that is marked and no decision. The box may be
+    // asked for that.
+    fn resolve(
+        &mut self,
+        alloc: Global,
+        store: &Store,
+        trail: &Trail,
+        bridge: &mut Bridge,
+        place: usize,
+    ) -> Result<(), AskStop>
         requires within { place < length trail.now.steps }
-        requires rooted { Rooted store.now trail.now.steps }
+        requires ready { IsReady store.now trail.now.steps (facing meaning bridge.old) }
         requires marked { IsMarked trail.now.steps self.old.places.items }
         ensures falsified { self.new.falsified ≡ self.old.falsified }
         ensures marked { IsMarked trail.now.steps self.new.places.items }
-        ensures blocked { (test : Assignment → Bool) → BlockedCore (Both store.now test) trail.now.steps self.old.places.items (place + 1)
-            → BlockedCore (Both store.now test) trail.now.steps self.new.places.items place }
+        ensures blocked { OnOk result ((test : Assignment → Bool) → BlockedCore (Both store.now (facing meaning bridge.old).means.admits test) trail.now.steps self.old.places.items (place + 1)
+            → BlockedCore (Both store.now (facing meaning bridge.new).means.admits test) trail.now.steps self.new.places.items place) }
+        ensures asked { Asked 1 (facing meaning bridge.old) (facing meaning bridge.new) }
+        ensures ended { Ended result (facing meaning bridge.old) (facing meaning bridge.new) }
+        ensures due { IfErr result (λ e. IsAskDue e trail.now.steps) }
+        ensures ready { IsReady store.now trail.now.steps (facing meaning bridge.new) }
     {
         trail.law_shape();
         if !self.places[place] {
-            return;
+            return Ok(());
         }
         if is_decision(trail, place) {
-            return;
+            return Ok(());
         }
-        self.mark_all(trail, reason_at(store, trail, place));
+        let reason = source_at(alloc, store, trail, bridge, place)?;
+        self.mark_all(trail, reason.lits(store));
+        Ok(())
     }
 
     // Walks back over the trail, until the marked decisions are what the conflict comes from.
-    pub(crate) fn trace_back(&mut self, store: &Store, trail: &Trail)
-        requires rooted { Rooted store.now trail.now.steps }
+    pub(crate) fn trace_back(
+        &mut self,
+        alloc: Global,
+        store: &Store,
+        trail: &Trail,
+        bridge: &mut Bridge,
+    ) -> Result<(), AskStop>
+        requires ready { IsReady store.now trail.now.steps (facing meaning bridge.old) }
         requires marked { IsMarked trail.now.steps self.old.places.items }
-        ensures falsified { self.new.falsified ≡ self.old.falsified }
-        ensures marked { IsMarked trail.now.steps self.new.places.items }
-        ensures blocked { (test : Assignment → Bool) → BlockedCore (Both store.now test) trail.now.steps self.old.places.items (length trail.now.steps)
-            → BlockedCore (Both store.now test) trail.now.steps self.new.places.items 0 }
+        ensures falsified { OnOk result (self.new.falsified ≡ self.old.falsified) }
+        ensures marked { OnOk result (IsMarked trail.now.steps self.new.places.items) }
+        ensures blocked { OnOk result ((test : Assignment → Bool) → BlockedCore (Both store.now (facing meaning bridge.old).means.admits test) trail.now.steps self.old.places.items (length trail.now.steps)
+            → BlockedCore (Both store.now (facing meaning bridge.new).means.admits test) trail.now.steps self.new.places.items 0) }
+        ensures asked { Asked (length trail.now.steps) (facing meaning bridge.old) (facing meaning bridge.new) }
+        ensures ended { Ended result (facing meaning bridge.old) (facing meaning bridge.new) }
+        ensures due { IfErr result (λ e. IsAskDue e trail.now.steps) }
+        ensures ready { IsReady store.now trail.now.steps (facing meaning bridge.new) }
     {
-        // What stands at the root is never marked, since it follows from the clauses.
+        // What stands at the root is never marked, since it follows from what is known.
         let end = trail.start_of(1) as usize;
         let mut place = trail.lits().len();
         'walk: while place > end {
             place -= 1;
-            self.resolve(store, trail, place);
+            self.resolve(alloc, store, trail, bridge, place)?;
         }
+        Ok(())
     }
 
     // Whether a literal is the falsified one; it is so no more.

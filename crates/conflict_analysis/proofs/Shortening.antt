@@ -11,8 +11,10 @@ use Rattle.clause_store.specs.Stored.{Stored}
 use Rattle.trail_state.specs.declared.trail.Step.{Step}
 use Rattle.trail_state.specs.Trail.{Trace, step, true_on, IsTrail, IsApart, HasRoom}
 use Rattle.trail_state.specs.Clauses.{FalseOn, IsReason}
-use Rattle.rooted_trails.specs.Known.{everything, Known, AllStandIn}
+use Rattle.rooted_trails.specs.Known.{everything, Known}
 use Rattle.rooted_trails.specs.Marks.{flag, Covered, Grows}
+use Rattle.rooted_trails.proofs.Knowing.{known_all}
+use Rattle.theory_bridge.specs.Shown.{Shown}
 use Rattle.rooted_trails.proofs.Falses.{flag_other, flag_same, flag_grows, covered_grows}
 use Rattle.conflict_analysis.specs.Learning.{lit_level}
 use Rattle.conflict_analysis.specs.Walking.{Resolvent, marks_on, LowerFrom, IsSpare, Follows, IsUip, IsResolved}
@@ -58,6 +60,10 @@ spare_grows F t seen seen' j grows s = record {
   covered = λ l h n. covered_grows t seen seen' j l grows (s.covered l h n);
 }
 
+-- what is spare by the clauses is so under what is admitted
+spare_known : (s : List (Option Stored)) (admits : Assignment → Bool) (t : List Step) (seen : List Bool) (j : ℕ) → IsSpare (Known s everything) t seen j → IsSpare (Known s admits) t seen j
+spare_known s admits t seen j x = record { clause = x.clause; implied = λ f known. x.implied f (known_all f known); covered = x.covered }
+
 -- a literal that follows is marked
 pub uip_settled : (F : Assignment → Type 0) (t : List Step) (top i k : ℕ) (seen : List Bool) (lower : List ℕ) → IsTrail t top → IsUip F t top i seen lower → length seen ≡ length t → k < length t → 0 < (step t k).level → (step t k).level < top → IsSpare F t seen k
     → IsUip F t top i (set seen k true) lower
@@ -89,25 +95,26 @@ uip_settled F t top i k seen lower shape u long in' above below spare =
       lower_only = λ l h. let o = u.lower_only l h in (o.0, o.1, o.2, grows o.0 o.3, o.4);
     }
 
-pub resolved_settled : (s : List (Option Stored)) (tr : Trace) (i l : ℕ) (r r' : Resolvent) → IsTrail tr.steps tr.level → IsResolved s tr i r → Follows (Known s everything) tr.steps tr.level (marks_on r.seen tr.steps) l → var_of l < length r.seen
-    → r' ≡ record r { seen = set r.seen (var_of l) true } → IsResolved s tr i r'
-resolved_settled s tr i l r r' shape w f wide e =
+pub resolved_settled : (s : List (Option Stored)) (b : Shown) (tr : Trace) (i l : ℕ) (r r' : Resolvent) → IsTrail tr.steps tr.level → IsResolved s b tr i r → Follows (Known s everything) tr.steps tr.level (marks_on r.seen tr.steps) l → var_of l < length r.seen
+    → r' ≡ record r { seen = set r.seen (var_of l) true } → IsResolved s b tr i r'
+resolved_settled s b tr i l r r' shape w f wide e =
     let set-is : marks_on (set r.seen (var_of l) true) tr.steps ≡ set (marks_on r.seen tr.steps) f.place true = marks_set r.seen tr.steps f.place (var_of l) shape.apart f.within f.same wide in
     rw e (record {
       wide = rw (length-set r.seen (var_of l) true) w.wide;
-      uip = rw set-is (uip_settled (Known s everything) tr.steps tr.level i f.place (marks_on r.seen tr.steps) r.lits shape w.uip (marks_length r.seen tr.steps) f.within f.above f.below f.spare);
+      uip = rw set-is (uip_settled (Known s b.means.admits) tr.steps tr.level i f.place (marks_on r.seen tr.steps) r.lits shape w.uip (marks_length r.seen tr.steps) f.within f.above f.below
+          (spare_known s b.means.admits tr.steps (marks_on r.seen tr.steps) f.place f.spare));
       met_false = w.met_false;
       from = w.from;
     })
 
 -- a literal that follows has a mark's place
-pub follows_wide : (s : List (Option Stored)) (tr : Trace) (i l : ℕ) (r : Resolvent) → HasRoom tr → IsResolved s tr i r → Follows (Known s everything) tr.steps tr.level (marks_on r.seen tr.steps) l → var_of l < length r.seen
-follows_wide s tr i l r room w f = let named = (room.named f.place f.within).1 in let wide = w.wide in let same = f.same in omega arith
+pub follows_wide : (s : List (Option Stored)) (tr : Trace) (l : ℕ) (r : Resolvent) → HasRoom tr → tr.declared < length r.seen → Follows (Known s everything) tr.steps tr.level (marks_on r.seen tr.steps) l → var_of l < length r.seen
+follows_wide s tr l r room wide f = let named = (room.named f.place f.within).1 in let same = f.same in omega arith
 
 -- a literal that follows is dropped
-pub resolved_dropped : (s : List (Option Stored)) (tr : Trace) (i x : ℕ) (r r' : Resolvent) → IsTrail tr.steps tr.level → IsResolved s tr i r → Follows (Known s everything) tr.steps tr.level (marks_on r.seen tr.steps) x
-    → r' ≡ record r { lits = r'.lits } → ((l : ℕ) → has r'.lits l ≡ true → has r.lits l ≡ true) → ((l : ℕ) → has r.lits l ≡ true → (has r'.lits l ≡ true) ⊎ (x ≡ l)) → IsResolved s tr i r'
-resolved_dropped s tr i x r r' shape w f e left gone =
+pub resolved_dropped : (s : List (Option Stored)) (b : Shown) (tr : Trace) (i x : ℕ) (r r' : Resolvent) → IsTrail tr.steps tr.level → IsResolved s b tr i r → Follows (Known s everything) tr.steps tr.level (marks_on r.seen tr.steps) x
+    → r' ≡ record r { lits = r'.lits } → ((l : ℕ) → has r'.lits l ≡ true → has r.lits l ≡ true) → ((l : ℕ) → has r.lits l ≡ true → (has r'.lits l ≡ true) ⊎ (x ≡ l)) → IsResolved s b tr i r'
+resolved_dropped s b tr i x r r' shape w f e left gone =
     let t = tr.steps in
     let p : ℕ = neg (step t i).lit in
     rw e (record {
@@ -125,7 +132,7 @@ resolved_dropped s tr i x r r' shape w f e left gone =
                     | inl b ↦ inl b
                     | inr q ↦
                         let same : var_of (step t f.place).lit ≡ var_of (step t j).lit = f.same ∙ ap var_of q ∙ var_of-neg (step t j).lit in
-                        inr (subst (λ k. IsSpare (Known s everything) t (marks_on r.seen t) k) (shape.apart f.place j f.within in' same) f.spare)
+                        inr (subst (λ k. IsSpare (Known s b.means.admits) t (marks_on r.seen t) k) (shape.apart f.place j f.within in' same) (spare_known s b.means.admits t (marks_on r.seen t) f.place f.spare))
                   ]
               | inr a ↦ inr a
             ];

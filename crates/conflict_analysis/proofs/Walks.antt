@@ -8,7 +8,7 @@ use Rattle.trail_state.specs.declared.reason.Reason.TheVariants.{Decision}
 use Rattle.trail_state.specs.Trail.{step, IsTrail}
 use Rattle.trail_state.proofs.Levels.{rising, below_top, opens}
 use Rattle.rooted_trails.specs.Marks.{flag, RootFollows, Covered, Grows}
-use Rattle.rooted_trails.proofs.Blocking.{blocked_step, blocked_skip}
+use Rattle.rooted_trails.proofs.Blocking.{blocked_step, blocked_skip, blocked_fewer}
 use Rattle.conflict_analysis.specs.Walking.{is_open, open_count, Marked, Resolving, IsUip}
 use Rattle.conflict_analysis.proofs.Marking.{open_count-some, open_count-pos}
 
@@ -131,16 +131,17 @@ module _ (F : Assignment → Type 0) (t : List Step) (top i : ℕ) (seen : List 
         lower_only = r.marked.lower_only;
       }
 
+-- what is known of F is known of fewer assignments
+pub resolving_fewer : (F G : Assignment → Type 0) (t : List Step) (top i : ℕ) (seen : List Bool) (count : ℕ) (lower : List ℕ) → ((f : Assignment) → G f → F f) → Resolving F t top i seen count lower → Resolving G t top i seen count lower
+resolving_fewer F G t top i seen count lower fewer r = record {
+  marked = r.marked;
+  positive = r.positive;
+  blocked = blocked_fewer F G t seen i fewer r.blocked;
+}
+
 -- an open place is left below i
 pub resolving_pos : (F : Assignment → Type 0) (t : List Step) (top i : ℕ) (seen : List Bool) (count : ℕ) (lower : List ℕ) → Resolving F t top i seen count lower → 0 < i
 resolving_pos F t top i seen count lower r =
     let o = open_count-some t seen top i (let c = r.marked.counted in let p = r.positive in omega arith) in
     let lt = o.1 in
     omega arith
-
--- the next turn of the walk
-pub walk_next : (F : Assignment → Type 0) (t : List Step) (top i : ℕ) (seen : List Bool) (count : ℕ) (lower : List ℕ) → i < length t → Resolving F t top i seen count lower → (i - 1 < length t) × Resolving F t top (i - 1 + 1) seen count lower
-walk_next F t top i seen count lower in' r =
-    let pos = resolving_pos F t top i seen count lower r in
-    let e : i ≡ i - 1 + 1 = omega arith in
-    (omega arith, subst (λ k. Resolving F t top k seen count lower) e r)

@@ -1,13 +1,16 @@
 -- What a conflict teaches.
 use Rattle.std.specs.List.{list_any, range_with_len}
-use Rattle.std.specs.Prelude.{◌≡◌, ◌≢◌, ◌<◌, ◌≤◌, ◌+◌, ◌==◌, ◌⊎◌, min, ℕ, Bool, true, List, Option, Some, unwrap_or, count_by}
+use Rattle.std.specs.Prelude.{◌≡◌, ◌≢◌, ◌<◌, ◌≤◌, ◌+◌, ◌==◌, ◌⊎◌, min, ℕ, Bool, true, List, Option, Some, Result, Ok, Err, unwrap_or, count_by}
 use Rattle.sat_terms.specs.Limits.{max_number}
 use Rattle.sat_terms.specs.Literal.{has, var_of}
 use Rattle.trail_state.specs.declared.trail.Step.{Step}
 use Rattle.trail_state.specs.Trail.{level_on}
 use Rattle.conflict_analysis.specs.Counting.{Counted, IsDue}
 use Rattle.conflict_analysis.specs.declared.analysis.AnalyzeStop.{AnalyzeStop}
-use Rattle.conflict_analysis.specs.declared.analysis.AnalyzeStop.TheVariants.{Conflicts, Memory}
+use Rattle.conflict_analysis.specs.declared.analysis.AnalyzeStop.TheVariants.{Conflicts, Callbacks, Memory}
+use Rattle.theory_bridge.specs.declared.stop.AskStop.TheVariants as asks
+use Rattle.theory_bridge.specs.Shown.{Shown, is_out}
+use Rattle.lazy_reasons.specs.Facing.{IsAskDue}
 
 -- the level of a literal, 0 where it has no value
 abbrev pub lit_level : List Step → ℕ → ℕ
@@ -51,4 +54,22 @@ pub record Rises (old new : Counted) : Type 0 where
 -- why an analysis stopped, and what it leaves of the tally
 abbrev pub Stops : AnalyzeStop → Counted → Counted → Type 0
 Stops (Conflicts n) old new = (n ≡ old.count) × IsDue n old.budget × (new ≡ record old { is_spent = true })
+Stops (Callbacks n) old new = (IsDue old.count old.budget → ⊥) × (new ≡ old)
 Stops Memory old new = (IsDue old.count old.budget → ⊥) × (new ≡ old)
+
+-- How an analysis leaves the bridge: spent exactly where it answers Callbacks, which it does where no callback is left. Where it
+-- answers Conflicts the box was not called.
+abbrev pub ClosedBy : AnalyzeStop → Shown → Shown → Type 0
+ClosedBy (Conflicts n) old new = new ≡ old
+ClosedBy (Callbacks n) old new = (n ≡ new.count) × (is_out new ≡ true) × (new.spent ≡ true)
+ClosedBy Memory old new = new.spent ≡ old.spent
+
+abbrev pub Closed : {A : Type 0} → Result A AnalyzeStop → Shown → Shown → Type 0
+Closed (Ok a) old new = new.spent ≡ old.spent
+Closed (Err e) old new = ClosedBy e old new
+
+-- where it stopped at a callback, one was due
+abbrev pub IsDueOn : AnalyzeStop → List Step → Type 0
+IsDueOn (Conflicts n) t = Unit {0}
+IsDueOn (Callbacks n) t = IsAskDue (asks.Callbacks n) t
+IsDueOn Memory t = Unit {0}

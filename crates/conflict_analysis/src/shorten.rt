@@ -14,24 +14,24 @@
 //! looked at about once in an analysis. Afterwards the literals of the clause whose whole reason is
 //! marked go. The path's length is no depth of calls, and the steps for one literal are bounded.
 //!
-//! A literal of the current level never helps: it is later on the trail than the reasons here. Not
+//! A literal of the current level never helps: it is later on the trail than the reasons here. What
+//! the theory implied is kept as a decision is, since its reason would have to be asked for. Not
 //! done: the levels of the clause as an early end of a path, and putting one literal for all of a
 //! level (shrinking, Fleury and Biere 2021).
 ghost use Rattle.std.specs.Prelude.{◌≡◌, ◌≢◌, ◌<◌, ◌≤◌, ◌⊎◌, ℕ, length, true, OnOk, IfSome};
 ghost use Rattle.sat_terms.specs.Literal.{has, var_of};
 ghost use Rattle.trail_state.specs.Trail.{step};
 ghost use Rattle.trail_state.specs.Clauses.{IsReason};
-ghost use Rattle.trail_state.specs.declared.reason.Reason.TheVariants.{Decision};
 ghost use Rattle.rooted_trails.specs.Known.{everything, Known};
-ghost use Rattle.rooted_trails.specs.Rooted.{Rooted};
+ghost use Rattle.rooted_trails.specs.Rooted.{HasReasons, by_clause};
 ghost use Rattle.rooted_trails.specs.Marks.{flag, Covered};
 ghost use Rattle.conflict_analysis.specs.Learning.{lit_level};
-ghost use Rattle.conflict_analysis.specs.Walking.{marks_on, Follows, IsResolved};
+ghost use Rattle.conflict_analysis.specs.Walking.{marks_on, Follows, KeepsResolved};
 
 use crate::levels::level_of;
 use crate::scratch::{Scratch, Visit};
 use clause_store::store::Store;
-use rooted_trails::reading::{is_decision, reason_at};
+use rooted_trails::reading::{is_by_clause, reason_at};
 use sat_model::literal::Lit;
 use sat_model::memory::Memory;
 use trail_state::trail::Trail;
@@ -40,18 +40,18 @@ use trail_state::trail::Trail;
 const MOST_STEPS: usize = 10_000;
 
 // The place of a literal's variable, if it has one above the root and below the current level, and
-// was not decided.
+// a clause implied it.
 fn implied_place(trail: &Trail, lit: Lit) -> Option<usize>
     ensures within { IfSome result (λ k. k < length trail.now.steps) }
     ensures same { IfSome result (λ k. var_of (step trail.now.steps k).lit ≡ var_of lit) }
     ensures above { IfSome result (λ k. 0 < (step trail.now.steps k).level) }
     ensures below { IfSome result (λ k. (step trail.now.steps k).level < trail.now.level) }
-    ensures implied { IfSome result (λ k. (step trail.now.steps k).reason ≢ Decision) }
+    ensures clause { IfSome result (λ k. by_clause (step trail.now.steps k).reason ≡ true) }
 {
     trail.law_shape();
     let place = trail.place_of(lit.var())?;
     let level = trail.level_at(place);
-    if level == 0 || level >= trail.level() || is_decision(trail, place as usize) {
+    if level == 0 || level >= trail.level() || !is_by_clause(trail, place as usize) {
         None
     } else {
         Some(place as usize)
@@ -91,7 +91,7 @@ impl Scratch {
     // Whether a literal follows from marked ones by its reason.
     fn is_spare(&self, store: &Store, trail: &Trail, lit: Lit) -> bool
         requires wide { trail.now.declared < length self.now.seen }
-        requires rooted { Rooted store.now trail.now.steps }
+        requires reasons { HasReasons store.now trail.now.steps }
         ensures { result ≡ true → Follows (Known store.now everything) trail.now.steps trail.now.level (marks_on self.now.seen trail.now.steps) lit }
     {
         match implied_place(trail, lit) {
@@ -104,7 +104,7 @@ impl Scratch {
     // root, with the place after it.
     fn next_open(&self, store: &Store, trail: &Trail, lit: Lit, start: usize) -> Option<Visit>
         requires wide { trail.now.declared < length self.now.seen }
-        requires rooted { Rooted store.now trail.now.steps }
+        requires reasons { HasReasons store.now trail.now.steps }
     {
         let place = implied_place(trail, lit)?;
         self.open_from(trail, reason_at(store, trail, place), place, start)
@@ -132,9 +132,10 @@ impl Scratch {
 
     // Marks a literal that follows from marked ones.
     fn settle(&mut self, store: &Store, trail: &Trail, uip: usize, lit: Lit) -> Result<(), Memory>
-        requires resolved { IsResolved store.now trail.now uip self.old }
+        requires wide { trail.now.declared < length self.old.seen }
         requires follows { Follows (Known store.now everything) trail.now.steps trail.now.level (marks_on self.old.seen trail.now.steps) lit }
-        ensures resolved { OnOk result (IsResolved store.now trail.now uip self.new) }
+        ensures resolved { OnOk result (KeepsResolved store.now trail.now uip self.old self.new) }
+        ensures wide { OnOk result (trail.now.declared < length self.new.seen) }
         ensures lits { OnOk result (self.new.lits ≡ self.old.lits) }
     {
         trail.law_shape();
@@ -155,9 +156,10 @@ impl Scratch {
         uip: usize,
         lit: Lit,
     ) -> Result<bool, Memory>
-        requires rooted { Rooted store.now trail.now.steps }
-        requires resolved { IsResolved store.now trail.now uip self.old }
-        ensures resolved { OnOk result (IsResolved store.now trail.now uip self.new) }
+        requires reasons { HasReasons store.now trail.now.steps }
+        requires wide { trail.now.declared < length self.old.seen }
+        ensures resolved { OnOk result (KeepsResolved store.now trail.now uip self.old self.new) }
+        ensures wide { OnOk result (trail.now.declared < length self.new.seen) }
         ensures lits { OnOk result (self.new.lits ≡ self.old.lits) }
     {
         if self.is_spare(store, trail, lit) {
@@ -190,9 +192,10 @@ impl Scratch {
         lit: Lit,
         start: usize,
     ) -> Result<bool, Memory>
-        requires rooted { Rooted store.now trail.now.steps }
-        requires resolved { IsResolved store.now trail.now uip self.old }
-        ensures resolved { OnOk result (IsResolved store.now trail.now uip self.new) }
+        requires reasons { HasReasons store.now trail.now.steps }
+        requires wide { trail.now.declared < length self.old.seen }
+        ensures resolved { OnOk result (KeepsResolved store.now trail.now uip self.old self.new) }
+        ensures wide { OnOk result (trail.now.declared < length self.new.seen) }
         ensures lits { OnOk result (self.new.lits ≡ self.old.lits) }
     {
         match self.next_open(store, trail, lit, start) {
@@ -203,9 +206,10 @@ impl Scratch {
 
     // One step of the walk, and whether it goes on.
     fn advance(&mut self, store: &Store, trail: &Trail, uip: usize) -> Result<bool, Memory>
-        requires rooted { Rooted store.now trail.now.steps }
-        requires resolved { IsResolved store.now trail.now uip self.old }
-        ensures resolved { OnOk result (IsResolved store.now trail.now uip self.new) }
+        requires reasons { HasReasons store.now trail.now.steps }
+        requires wide { trail.now.declared < length self.old.seen }
+        ensures resolved { OnOk result (KeepsResolved store.now trail.now uip self.old self.new) }
+        ensures wide { OnOk result (trail.now.declared < length self.new.seen) }
         ensures lits { OnOk result (self.new.lits ≡ self.old.lits) }
     {
         match self.leave() {
@@ -216,9 +220,10 @@ impl Scratch {
 
     // Marks what must be marked to see that a literal follows, if it does.
     fn follow(&mut self, store: &Store, trail: &Trail, uip: usize, lit: Lit) -> Result<(), Memory>
-        requires rooted { Rooted store.now trail.now.steps }
-        requires resolved { IsResolved store.now trail.now uip self.old }
-        ensures resolved { OnOk result (IsResolved store.now trail.now uip self.new) }
+        requires reasons { HasReasons store.now trail.now.steps }
+        requires wide { trail.now.declared < length self.old.seen }
+        ensures resolved { OnOk result (KeepsResolved store.now trail.now uip self.old self.new) }
+        ensures wide { OnOk result (trail.now.declared < length self.new.seen) }
         ensures lits { OnOk result (self.new.lits ≡ self.old.lits) }
     {
         self.start_path();
@@ -233,9 +238,10 @@ impl Scratch {
 
     // Marks what must be marked to see which literals of the clause follow from others.
     fn mark_spare(&mut self, store: &Store, trail: &Trail, uip: usize) -> Result<(), Memory>
-        requires rooted { Rooted store.now trail.now.steps }
-        requires resolved { IsResolved store.now trail.now uip self.old }
-        ensures { OnOk result (IsResolved store.now trail.now uip self.new) }
+        requires reasons { HasReasons store.now trail.now.steps }
+        requires wide { trail.now.declared < length self.old.seen }
+        ensures resolved { OnOk result (KeepsResolved store.now trail.now uip self.old self.new) }
+        ensures wide { OnOk result (trail.now.declared < length self.new.seen) }
     {
         for index in 0..self.learned().len() {
             let lit = self.learned()[index];
@@ -247,9 +253,10 @@ impl Scratch {
     // Drops a literal of the clause if it follows from marked ones.
     fn drop_spare(&mut self, store: &Store, trail: &Trail, uip: usize, index: usize)
         requires within { index < length self.old.lits }
-        requires rooted { Rooted store.now trail.now.steps }
-        requires resolved { IsResolved store.now trail.now uip self.old }
-        ensures resolved { IsResolved store.now trail.now uip self.new }
+        requires reasons { HasReasons store.now trail.now.steps }
+        requires wide { trail.now.declared < length self.old.seen }
+        ensures resolved { KeepsResolved store.now trail.now uip self.old self.new }
+        ensures wide { trail.now.declared < length self.new.seen }
         ensures long { index ≤ length self.new.lits }
     {
         trail.law_shape();
@@ -262,9 +269,10 @@ impl Scratch {
 
     // Drops the literals of the clause that follow from others in it.
     pub(crate) fn shorten(&mut self, store: &Store, trail: &Trail, uip: usize) -> Result<(), Memory>
-        requires rooted { Rooted store.now trail.now.steps }
-        requires resolved { IsResolved store.now trail.now uip self.old }
-        ensures { OnOk result (IsResolved store.now trail.now uip self.new) }
+        requires reasons { HasReasons store.now trail.now.steps }
+        requires wide { trail.now.declared < length self.old.seen }
+        ensures resolved { OnOk result (KeepsResolved store.now trail.now uip self.old self.new) }
+        ensures wide { OnOk result (trail.now.declared < length self.new.seen) }
     {
         self.mark_spare(store, trail, uip)?;
         let mut index = self.learned().len();

@@ -10,20 +10,30 @@
 //! from the stored ones (Marques Silva and Sakallah, GRASP, 1996; the first such point: Moskewicz,
 //! Madigan, Zhao, Zhang and Malik, Chaff, 2001).
 //!
-//! Literals of the root are passed over: they follow from the stored clauses.
-ghost use Rattle.std.specs.Prelude.{◌≡◌, ◌<◌, ◌≤◌, ◌+◌, ◌⊎◌, ◌==◌, ℕ, length, true, false, take, OnOk, IfOk};
+//! Literals of the root are passed over: they follow from the stored clauses and from what the
+//! theory admits.
+//!
+//! A literal that the theory implied has a reason too, for which the box is asked when the walk
+//! comes to it. What the box admits may fall with each question, so the clauses that were resolved
+//! on follow from what it admits now, whatever it admitted when they were met.
+ghost use Rattle.std.specs.Prelude.{◌≡◌, ◌<◌, ◌≤◌, ◌+◌, ◌⊎◌, ◌==◌, ℕ, length, true, false, take, OnOk, IfOk, IfErr};
 ghost use Rattle.sat_terms.specs.Literal.{has, neg, var_of};
 ghost use Rattle.trail_state.specs.Trail.{true_on};
-ghost use Rattle.rooted_trails.specs.Rooted.{Rooted};
+ghost use Rattle.theory_bridge.specs.Shown.{facing};
+ghost use Rattle.theory_bridge.specs.Going.{Asked, Ended};
+ghost use Rattle.lazy_reasons.specs.Facing.{IsReady, IsAskDue};
 ghost use Rattle.rooted_trails.specs.Marks.{flag, Covered, Grows};
 ghost use Rattle.conflict_analysis.specs.Walking.{marks_on, IsMarking, IsResolving, IsResolved};
 
 use crate::levels::level_of;
 use crate::scratch::Scratch;
 use clause_store::store::Store;
-use rooted_trails::reading::reason_at;
+use lazy_reasons::source::source_at;
 use sat_model::literal::Lit;
 use sat_model::memory::Memory;
+use std::alloc::Global;
+use theory_bridge::bridge::Bridge;
+use theory_bridge::stop::AskStop;
 use trail_state::trail::Trail;
 
 impl Scratch {
@@ -73,22 +83,34 @@ impl Scratch {
         Ok(())
     }
 
-    // Puts for the literal at a place, if it is marked, the other literals of its reason.
-    fn resolve_at(&mut self, store: &Store, trail: &Trail, place: usize) -> Result<(), Memory>
+    // Puts for the literal at a place, if it is marked, the other literals of its reason. The box may
+    // be asked for that.
+    fn resolve_at(
+        &mut self,
+        alloc: Global,
+        store: &Store,
+        trail: &Trail,
+        bridge: &mut Bridge,
+        place: usize,
+    ) -> Result<(), AskStop>
         requires within { place < length trail.now.steps }
-        requires rooted { Rooted store.now trail.now.steps }
-        requires resolving { IsResolving store.now trail.now (place + 1) self.old }
+        requires ready { IsReady store.now trail.now.steps (facing meaning bridge.old) }
+        requires resolving { IsResolving store.now (facing meaning bridge.old) trail.now (place + 1) self.old }
         requires more { flag (marks_on self.old.seen trail.now.steps) place ≡ true → 1 < self.old.count }
-        ensures { OnOk result (IsResolving store.now trail.now place self.new) }
+        ensures resolving { OnOk result (IsResolving store.now (facing meaning bridge.new) trail.now place self.new) }
+        ensures asked { Asked 1 (facing meaning bridge.old) (facing meaning bridge.new) }
+        ensures ended { Ended result (facing meaning bridge.old) (facing meaning bridge.new) }
+        ensures due { IfErr result (λ e. IsAskDue e trail.now.steps) }
+        ensures ready { IsReady store.now trail.now.steps (facing meaning bridge.new) }
     {
         trail.law_shape();
         if !self.is_marked_at(trail, place) {
             return Ok(());
         }
         self.drop_one();
-        let reason = reason_at(store, trail, place);
+        let reason = source_at(alloc, store, trail, bridge, place)?;
         // The literal itself stands in its reason too, and is marked already.
-        self.mark_all(trail, reason, place)?;
+        self.mark_all(trail, reason.lits(store), place)?;
         Ok(())
     }
 
@@ -114,15 +136,25 @@ impl Scratch {
     }
 
     // Goes down the trail until one literal of the current level is left, and gives its place.
-    pub(crate) fn find_uip(&mut self, store: &Store, trail: &Trail) -> Result<usize, Memory>
-        requires rooted { Rooted store.now trail.now.steps }
-        requires resolving { IsResolving store.now trail.now (length trail.now.steps) self.old }
-        ensures { IfOk result (λ i. IsResolved store.now trail.now i self.new) }
+    pub(crate) fn find_uip(
+        &mut self,
+        alloc: Global,
+        store: &Store,
+        trail: &Trail,
+        bridge: &mut Bridge,
+    ) -> Result<usize, AskStop>
+        requires ready { IsReady store.now trail.now.steps (facing meaning bridge.old) }
+        requires resolving { IsResolving store.now (facing meaning bridge.old) trail.now (length trail.now.steps) self.old }
+        ensures resolved { IfOk result (λ i. IsResolved store.now (facing meaning bridge.new) trail.now i self.new) }
+        ensures asked { Asked (length trail.now.steps) (facing meaning bridge.old) (facing meaning bridge.new) }
+        ensures ended { Ended result (facing meaning bridge.old) (facing meaning bridge.new) }
+        ensures due { IfErr result (λ e. IsAskDue e trail.now.steps) }
+        ensures ready { IsReady store.now trail.now.steps (facing meaning bridge.new) }
     {
         trail.law_shape();
         let mut place = trail.lits().len() - 1;
         'walk: while !self.is_last(trail, place) {
-            self.resolve_at(store, trail, place)?;
+            self.resolve_at(alloc, store, trail, bridge, place)?;
             place -= 1;
         }
         Ok(place)

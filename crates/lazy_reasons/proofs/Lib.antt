@@ -2,3 +2,4 @@ pub mod Mirrors
 pub mod Rows
 pub mod Finding
 pub mod Standing
+pub mod Idling

@@ -1,6 +1,7 @@
--- The reason of an implied literal above the root, as the code reads it.
-use Rattle.std.proofs.Common.{◌≡◌, ℕ, List, sym, ap, ◌∙◌, subst, Option}
+-- The reason of a literal above the root that a clause implied, as the code reads it.
+use Rattle.std.proofs.Common.{◌≡◌, ℕ, true, List, sym, ap, ◌∙◌, subst, Option}
 use Rattle.std.specs.Prelude.{IsSome}
+use Rattle.std.proofs.lemmas.Bool.{false≢true}
 use Rattle.sat_terms.specs.Truth.{Implies}
 use Rattle.clause_store.specs.Stored.{Stored, slot, slot_lits}
 use Rattle.trail_state.specs.declared.trail.Step.{Step}
@@ -9,20 +10,23 @@ use Rattle.trail_state.specs.declared.reason.Reason.TheVariants.{Decision, Claus
 use Rattle.trail_state.specs.Trail.{step}
 use Rattle.trail_state.specs.Clauses.{IsReason}
 use Rattle.rooted_trails.specs.Known.{everything, Known, AllStandIn}
-use Rattle.rooted_trails.specs.Rooted.{Rooted, IsImpliedAt, reason_lits}
+use Rattle.rooted_trails.specs.Rooted.{by_clause, HasReasons, IsImpliedByClause, reason_lits}
 use Rattle.rooted_trails.proofs.Knowing.{stands_of}
-use Rattle.rooted_trails.proofs.Rooting.{RootedBy}
-use Rattle.rooted_trails.proofs.Reasons.{rooted_above, live_implied}
+use Rattle.rooted_trails.proofs.Rooting.{RootedBy, reason_says}
+use Rattle.rooted_trails.proofs.Reasons.{live_implied}
 
-module _ (s : List (Option Stored)) (t : List Step) (i : ℕ) (r : Reason) (rooted : Rooted s t) (here : IsImpliedAt t i) (read : r ≡ (step t i).reason) where
+module _ (s : List (Option Stored)) (t : List Step) (i : ℕ) (r : Reason) (reasons : HasReasons s t) (here : IsImpliedByClause t i) (read : r ≡ (step t i).reason) where
   given : RootedBy s t i r
-  given = subst (RootedBy s t i) (sym read) (rooted_above s t i rooted here.within here.above)
+  given = subst (RootedBy s t i) (sym read) (reason_says s t i (step t i).reason (reasons i here.within here.above here.clause))
+
+  clause_read : by_clause r ≡ true
+  clause_read = ap by_clause read ∙ here.clause
 
   pub no_decision : r ≡ Decision → ⊥
-  no_decision is = here.implied (sym read ∙ is)
+  no_decision is = false≢true (ap by_clause (sym is) ∙ clause_read)
 
   pub no_theory : r ≡ Theory → ⊥
-  no_theory is = subst (RootedBy s t i) is given
+  no_theory is = false≢true (ap by_clause (sym is) ∙ clause_read)
 
   module _ (id : ℕ) (is : r ≡ Clause id) where
     by : RootedBy s t i (Clause id)

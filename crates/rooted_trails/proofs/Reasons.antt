@@ -1,5 +1,5 @@
 -- Laws of rooted trails.
-use Rattle.std.proofs.Common.{◌≡◌, ◌≢◌, ℕ, ◌<◌, ◌≤◌, Bool, true, false, ◌||◌, ◌&&◌, List, [], ◌∷◌, ◌++◌, length, take, ◌⊎◌, inl, inr, refl, sym, ap, ◌∙◌, subst, arith, Option}
+use Rattle.std.proofs.Common.{◌≡◌, ◌≢◌, ℕ, ◌<◌, ◌≤◌, Bool, true, ◌||◌, List, [], ◌∷◌, ◌++◌, length, take, ◌⊎◌, inl, inr, refl, sym, ap, ◌∙◌, subst, arith, Option}
 use Rattle.std.specs.Prelude.{IsSome, nat_lt}
 use Rattle.std.proofs.lemmas.Bool.{false≢true, eqb-true, or_cases, or_left, and_parts, cases_Bool, ltb-true}
 use Rattle.std.proofs.lemmas.List.{take-append-le, take_at, take-take, length-take-le}
@@ -16,10 +16,10 @@ use Rattle.trail_state.proofs.Changes.{step_old, step_new, old_or_new}
 use Rattle.trail_state.proofs.Backing.{step_take}
 use Rattle.trail_state.proofs.Levels.{decided}
 use Rattle.rooted_trails.specs.Known.{Known}
-use Rattle.rooted_trails.specs.Rooted.{rooted_at, Rooted, is_theory, is_given, FollowsAt, RootedUnder}
+use Rattle.rooted_trails.specs.Rooted.{by_clause, rooted_at, Rooted, HasReasons, is_theory, is_given, FollowsAt, RootedUnder}
 use Rattle.rooted_trails.specs.Marks.{RootFollows}
 use Rattle.rooted_trails.proofs.Knowing.{from_known}
-use Rattle.rooted_trails.proofs.Rooting.{RootedBy, RootedAt, at_says, theory_is, rooted_each, rooted_from}
+use Rattle.rooted_trails.proofs.Rooting.{RootedBy, RootedAt, reason_stands, at_says, theory_is, rooted_each, rooted_from}
 use Rattle.rooted_trails.proofs.Falses.{place_in_front, false_by_neg, resolved}
 
 -- a live clause is implied
@@ -65,6 +65,11 @@ under_above s admits t i rooted in' pos not' =
       | inr (inl g) ↦ absurd (not' g.0)
       | inr (inr r) ↦ absurd (let z = r.root in omega arith)
     ]
+
+-- what a clause implied above the root has that clause for its reason
+pub under_reasons : (s : List (Option Stored)) (admits : Assignment → Bool) (t : List Step) → RootedUnder s admits t → HasReasons s t
+under_reasons s admits t rooted i in' pos by =
+    reason_stands s t i (step t i).reason (under_above s admits t i rooted in' pos (λ e. false≢true (ap by_clause (sym e) ∙ by)))
 
 -- a trail that is rooted in the clauses is so whatever is admitted
 pub rooted_under : (s : List (Option Stored)) (admits : Assignment → Bool) (t : List Step) → Rooted s t → RootedUnder s admits t

@@ -63,14 +63,14 @@ reason_passes c t i r = and_from (has c (step t i).lit) (list_all (λ l. eqb l (
     ]))
 
 -- a step that has a reason
-reason_says : (s : List (Option Stored)) (t : List Step) (i : ℕ) (r : Reason) → has_reason s t i r ≡ true → RootedBy s t i r
+pub reason_says : (s : List (Option Stored)) (t : List Step) (i : ℕ) (r : Reason) → has_reason s t i r ≡ true → RootedBy s t i r
 reason_says s t i Decision h = tt
 reason_says s t i (Clause id) h =
     let q = and_parts _ _ h in
     (q.0, reason_is (slot_lits (slot s id)) t i q.1)
 reason_says s t i Theory h = absurd (false≢true h)
 
-reason_stands : (s : List (Option Stored)) (t : List Step) (i : ℕ) (r : Reason) → RootedBy s t i r → has_reason s t i r ≡ true
+pub reason_stands : (s : List (Option Stored)) (t : List Step) (i : ℕ) (r : Reason) → RootedBy s t i r → has_reason s t i r ≡ true
 reason_stands s t i Decision h = refl
 reason_stands s t i (Clause id) h = and_from _ _ h.0 (reason_passes (slot_lits (slot s id)) t i h.1)
 reason_stands s t i Theory h = absurd h

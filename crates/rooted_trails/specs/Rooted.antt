@@ -43,6 +43,16 @@ rooted_at s t i = has_reason s t i (step t i).reason || (((step t i).level == 0)
 abbrev pub Rooted : List (Option Stored) → List Step → Type 0
 Rooted s t = (i : ℕ) → i < length t → rooted_at s t i ≡ true
 
+-- whether a clause is the reason
+abbrev pub by_clause : Reason → Bool
+by_clause Decision = false
+by_clause (Clause id) = true
+by_clause Theory = false
+
+-- above the root every step that a clause implied has that clause for its reason
+abbrev pub HasReasons : List (Option Stored) → List Step → Type 0
+HasReasons s t = (i : ℕ) → i < length t → 0 < (step t i).level → by_clause (step t i).reason ≡ true → has_reason s t i (step t i).reason ≡ true
+
 -- whether the theory implied the step at a place, above the root: it gives the reason when it is asked for it
 abbrev pub is_theory : Reason → Bool
 is_theory Decision = false
@@ -73,3 +83,9 @@ pub record IsImpliedAt (t : List Step) (i : ℕ) : Type 0 where
   pub within : i < length t
   pub above : 0 < (step t i).level
   pub implied : (step t i).reason ≢ Decision
+
+-- a literal stands at the place, above the root, and a clause implied it
+pub record IsImpliedByClause (t : List Step) (i : ℕ) : Type 0 where
+  pub within : i < length t
+  pub above : 0 < (step t i).level
+  pub clause : by_clause (step t i).reason ≡ true

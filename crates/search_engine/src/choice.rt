@@ -16,16 +16,20 @@ ghost use Rattle.clause_store.specs.Stored.{Stored};
 ghost use Rattle.trail_state.specs.Trail.{true_on, value_on};
 ghost use Rattle.rooted_trails.specs.Rooted.{Rooted};
 ghost use Rattle.watch_lists.specs.Propagation.{AllQuiet};
+ghost use Rattle.theory_bridge.specs.Shown.{facing};
+ghost use Rattle.lazy_reasons.specs.Idle.{IsIdle};
 ghost use Rattle.search_engine.specs.Searching.{clauses, Keeps, Shows};
 ghost use Rattle.search_engine.specs.Turns.{AllOn, IsBetweenTurns, Passed, TurnIs};
 
 use crate::conflict::Turn;
 use crate::cursor::Cursor;
 use crate::state::{Core, Found};
-use assumption_core::cores::{CoreStart, core_of};
+use crate::clausal::core_clausal;
+use assumption_core::cores::CoreStart;
 use sat_model::literal::Lit;
 use sat_model::memory::Memory;
 use std::alloc::Global;
+use theory_bridge::bridge::Bridge;
 use trail_state::trail::Trail;
 
 // The first assumption that is not true.
@@ -62,10 +66,18 @@ fn show(trail: &Trail, model: &mut [bool])
 }
 
 // Decides an assumption that is not true, or finds the core where it is false.
-fn assume(alloc: Global, state: &mut Core, assumptions: &[Lit], lit: Lit) -> Result<Turn, Memory>
+fn assume(
+    alloc: Global,
+    state: &mut Core,
+    bridge: &mut Bridge,
+    assumptions: &[Lit],
+    lit: Lit,
+) -> Result<Turn, Memory>
+    requires idle { IsIdle (facing meaning bridge.old) }
     requires stands { IsBetweenTurns assumptions.now state.old }
     requires assumed { has assumptions.now lit ≡ true }
     requires untrue { true_on state.old.trail.steps lit ≡ false }
+    ensures idle { IsIdle (facing meaning bridge.new) }
     ensures turn { IfOk result (TurnIs assumptions.now state.old state.new) }
     ensures keeps { Keeps state.old state.new }
     ensures passed { (cursor : Cursor) → Passed assumptions.now state.old cursor → Passed assumptions.now state.new cursor }
@@ -80,7 +92,14 @@ fn assume(alloc: Global, state: &mut Core, assumptions: &[Lit], lit: Lit) -> Res
         return Ok(Turn::Goes);
     }
     let start = CoreStart::Falsified(lit);
-    let failed = core_of(alloc, state.store(), &state.trail, assumptions, start)?;
+    let failed = core_clausal(
+        alloc,
+        state.store(),
+        &state.trail,
+        bridge,
+        assumptions,
+        start,
+    )?;
     Ok(Turn::Ends(Found::Unsat(failed)))
 }
 
@@ -118,19 +137,22 @@ fn decide(state: &mut Core, assumptions: &[Lit]) -> Turn
 pub(crate) fn choose(
     alloc: Global,
     state: &mut Core,
+    bridge: &mut Bridge,
     assumptions: &[Lit],
     cursor: &mut Cursor,
 ) -> Result<Turn, Memory>
+    requires idle { IsIdle (facing meaning bridge.old) }
     requires stands { IsBetweenTurns assumptions.now state.old }
     requires quiet { AllQuiet state.old.watches.attached (clauses state.old) state.old.trail.steps }
     requires passed { Passed assumptions.now state.old cursor.old }
+    ensures idle { IsIdle (facing meaning bridge.new) }
     ensures turn { IfOk result (TurnIs assumptions.now state.old state.new) }
     ensures keeps { Keeps state.old state.new }
     ensures tally { state.new.tally ≡ state.old.tally }
     ensures passed { IfOk result (λ turn. Passed assumptions.now state.new cursor.new) }
 {
     match next_assumption(&state.trail, assumptions, cursor) {
-        Some(lit) => assume(alloc, state, assumptions, lit),
+        Some(lit) => assume(alloc, state, bridge, assumptions, lit),
         None => Ok(decide(state, assumptions)),
     }
 }

@@ -28,6 +28,8 @@ ghost use Rattle.watch_lists.specs.Propagation.{Follows};
 ghost use Rattle.conflict_analysis.specs.Learning.{Owes};
 ghost use Rattle.decide_order.specs.Ordering.{SameVars, KeepsFollowing};
 ghost use Rattle.search_policy.specs.Plan.{restarts_left};
+ghost use Rattle.theory_bridge.specs.Shown.{facing};
+ghost use Rattle.lazy_reasons.specs.Idle.{IsIdle};
 ghost use Rattle.search_engine.specs.Searching.{clauses, AttachesLive, IsReady, Keeps};
 ghost use Rattle.search_engine.specs.Turns.{AssumesFirst, IsBetweenTurns, Jumped, KeepsCount, TurnIs};
 
@@ -35,7 +37,8 @@ use crate::forgetting::reduce;
 use crate::state::{Core, Found, Spent};
 use clause_store::store::Store;
 use clause_store::stored::Keep;
-use conflict_analysis::analysis::{AnalyzeStop, Learned, analyze};
+use crate::clausal::learn_clausal;
+use conflict_analysis::analysis::{AnalyzeStop, Learned};
 use conflict_analysis::levels::highest;
 use decide_order::order::Order;
 use sat_model::lists::{ClauseId, Lits};
@@ -43,6 +46,7 @@ use sat_model::literal::Lit;
 use sat_model::memory::Memory;
 use search_policy::policy::Policy;
 use std::alloc::Global;
+use theory_bridge::bridge::Bridge;
 use trail_state::reason::Reason;
 use watch_lists::watches::Watches;
 
@@ -79,12 +83,15 @@ fn count(policy: &mut Policy, order: &mut Order, met: &[Lit], glue: u32) -> bool
 pub(crate) fn learn_from(
     alloc: Global,
     state: &mut Core,
+    bridge: &mut Bridge,
     assumptions: &[Lit],
     conflict: ClauseId,
 ) -> Result<Turn, Memory>
+    requires idle { IsIdle (facing meaning bridge.old) }
     requires stands { IsBetweenTurns assumptions.now state.old }
     requires live { IsSome (slot (clauses state.old) conflict) }
     requires is_false { FalseOn state.old.trail.steps (slot_lits (slot (clauses state.old) conflict)) }
+    ensures idle { IsIdle (facing meaning bridge.new) }
     ensures turn { IfOk result (TurnIs assumptions.now state.old state.new) }
     ensures keeps { Keeps state.old state.new }
     ensures budget { state.new.tally.budget ≡ state.old.tally.budget }
@@ -103,9 +110,11 @@ pub(crate) fn learn_from(
     state.trail.law_room();
     state.watches.cut(&state.trail);
     state.trail.law_shape();
-    let answer = analyze(
+    let answer = learn_clausal(
+        alloc,
         &state.store,
         &state.trail,
+        bridge,
         &mut state.scratch,
         &mut state.tally,
         conflict,
@@ -126,6 +135,7 @@ pub(crate) fn learn_from(
             Ok(Turn::Goes)
         }
         Err(AnalyzeStop::Conflicts(n)) => Ok(Turn::Ends(Found::Spent(Spent::Conflicts(n)))),
+        Err(AnalyzeStop::Callbacks(_)) => unreachable!(),
         Err(AnalyzeStop::Memory) => Err(Memory),
     }
 }

@@ -2,11 +2,13 @@
 //!
 //! A `Core` keeps what a search needs from one to the next (state.rt). `Core::add` stores a clause,
 //! `Core::resume` makes the core ready (ready.rt), `search` finds a model, a core of the
-//! assumptions, or that the budget was used up (search.rt, choice.rt, conflict.rt, forgetting.rt),
+//! assumptions, or that the budget was used up (search.rt, choice.rt, conflict.rt, clausal.rt,
+//! forgetting.rt),
 //! and `Core::pause` lays the core to rest.
 #![tactic(auto)]
 
 mod choice;
+mod clausal;
 mod conflict;
 mod cursor;
 mod forgetting;

@@ -12,6 +12,8 @@
 //! the policy allows only so many returns to the root.
 ghost use Rattle.std.specs.Prelude.{◌≡◌, ◌≤◌, IfOk};
 ghost use Rattle.sat_terms.specs.Limits.{max_number};
+ghost use Rattle.theory_bridge.specs.Shown.{facing};
+ghost use Rattle.lazy_reasons.specs.Idle.{IsIdle};
 ghost use Rattle.search_engine.specs.Searching.{IsReady, Keeps, CountsFrom, FoundIs};
 ghost use Rattle.search_engine.specs.Turns.{IsBetweenTurns, Passed, KeepsCount, TurnIs};
 
@@ -22,16 +24,20 @@ use crate::state::{Budget, Core, Found};
 use sat_model::literal::Lit;
 use sat_model::memory::Memory;
 use std::alloc::Global;
+use theory_bridge::bridge::Bridge;
 
 // Propagates, and then learns from a false clause, or decides.
 fn take_turn(
     alloc: Global,
     state: &mut Core,
+    bridge: &mut Bridge,
     assumptions: &[Lit],
     cursor: &mut Cursor,
 ) -> Result<Turn, Memory>
+    requires idle { IsIdle (facing meaning bridge.old) }
     requires stands { IsBetweenTurns assumptions.now state.old }
     requires passed { Passed assumptions.now state.old cursor.old }
+    ensures idle { IsIdle (facing meaning bridge.new) }
     ensures turn { IfOk result (TurnIs assumptions.now state.old state.new) }
     ensures keeps { Keeps state.old state.new }
     ensures budget { state.new.tally.budget ≡ state.old.tally.budget }
@@ -41,9 +47,9 @@ fn take_turn(
     match state.watches.propagate(&state.store, &mut state.trail)? {
         Some(conflict) => {
             *cursor = Cursor::start();
-            learn_from(alloc, state, assumptions, conflict)
+            learn_from(alloc, state, bridge, assumptions, conflict)
         }
-        None => choose(alloc, state, assumptions, cursor),
+        None => choose(alloc, state, bridge, assumptions, cursor),
     }
 }
 
@@ -53,7 +59,9 @@ fn take_turn(
 /// order, and then decides what the order picks. It ends with a model once every variable has a
 /// value.
 ///
-/// The core must be ready for the assumptions, and its trail at the root. `Sat` says that the
+/// The core must be ready for the assumptions, and its trail at the root. The propagator behind the
+/// bridge must rule nothing out, and must have been told nothing: it is not called yet, and is so
+/// afterwards too. `Sat` says that the
 /// core's model makes the firm clauses and the assumptions true; its values are those of the trail,
 /// where all declared variables have one. `Unsat` has a core: some of the assumptions, none twice,
 /// that no assignment which makes the stored clauses true makes true. `Spent` comes only where as
@@ -63,12 +71,15 @@ fn take_turn(
 pub fn search(
     alloc: Global,
     state: &mut Core,
+    bridge: &mut Bridge,
     assumptions: &[Lit],
     budget: Budget,
 ) -> Result<Found, Memory>
+    requires idle { IsIdle (facing meaning bridge.old) }
     requires ready { IsReady assumptions.now state.old }
     requires root { state.old.trail.level ≡ 0 }
     requires budget { budget.conflicts ≤ max_number }
+    ensures idle { IsIdle (facing meaning bridge.new) }
     ensures found { IfOk result (FoundIs assumptions.now state.old state.new) }
     ensures keeps { Keeps state.old state.new }
     ensures budget { state.new.tally.budget ≡ budget.conflicts }
@@ -79,11 +90,12 @@ pub fn search(
     // The total is asked for its range alone: the rise is counted from a number up to 2^62.
     state.tally.total();
     state.tally.start(budget.conflicts);
+    bridge.start(budget.callbacks);
     state.policy.start();
     state.order.stable(false);
     let mut cursor = Cursor::start();
     loop {
-        match take_turn(alloc, state, assumptions, &mut cursor)? {
+        match take_turn(alloc, state, bridge, assumptions, &mut cursor)? {
             Turn::Goes => {}
             Turn::Ends(found) => return Ok(found),
         }

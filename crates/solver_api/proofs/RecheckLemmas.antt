@@ -1,6 +1,6 @@
 -- A model makes all true that was given.
-use Rattle.std.proofs.Common.{◌≡◌, ◌∙◌, ap, cond, refl, arith, ℕ, suc, ◌+◌, Bool, true, false, List, [], ◌∷◌, length}
-use Rattle.std.specs.Prelude.{count_by, ◌&&◌}
+use Rattle.std.proofs.Common.{◌≡◌, ap, cond, refl, arith, ℕ, ◌+◌, Bool, true, List, [], ◌∷◌, length}
+use Rattle.std.specs.Prelude.{count_by}
 use Rattle.std.specs.List.{list_all}
 use Rattle.std.proofs.lemmas.List.Sums.{sum_by-cons}
 use Rattle.std.proofs.lemmas.Bool.{and_parts}

@@ -19,6 +19,9 @@ use search_engine::state::{Budget, Core, Found, Spent};
 use std::alloc::Global;
 use std::marker::Model;
 use std::mem;
+use theory_bridge::bridge::Bridge;
+use user_propagator::nothing::NoTheory;
+use user_propagator::theory::Theory;
 
 // What a query finds.
 #[derive(Drop)]
@@ -78,7 +81,10 @@ fn find(
     core.tally.total();
     core.tally.start(budget.conflicts);
     core.resume(vars)?;
-    match search(alloc, core, assumptions, budget)? {
+    // No propagator is connected.
+    let theory: Box<dyn Theory> = Box::new(alloc, NoTheory::new())?;
+    let mut bridge = Bridge::new(alloc, theory);
+    match search(alloc, core, &mut bridge, assumptions, budget)? {
         Found::Sat => {
             let model = mem::replace(&mut core.model, Vec::new(alloc));
             Ok(Answer::Model(Values::new(model)))

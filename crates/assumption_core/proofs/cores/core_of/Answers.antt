@@ -1,9 +1,11 @@
-use Rattle.std.proofs.Common.{◌∙◌}
+use Rattle.lazy_reasons.proofs.Rows.{asked_nothing}
 use Rattle.assumption_core.proofs.Walking.{core_found}
 use Rattle.assumption_core.proofs.cores.core_of.Goals as goal
 
-pub returns : goal.returns
-returns c =
-    let b = c.trace_back.ensures in
-    core_found c.args.store.now c.args.trail.now.steps c.args.assumptions.now c.args.start _ _ c.collect.result b.marked (b.falsified ∙ c.start.ensures.falsified)
-    (b.blocked _ c.start.ensures.blocked) c.requires.decisions c.requires.start c.collect.ensures
+pub returns-in_err-needs-clause-asked : goal.returns-in_err-needs-clause-asked
+returns-in_err-needs-clause-asked g c = asked_nothing _ _
+
+pub returns-clause-core : goal.returns-clause-core
+returns-clause-core g c =
+    let b = c.in_ok-trace_back.ensures in
+    core_found _ _ _ _ _ _ _ _ _ _ _ c.requires.ready b.ready b.marked c.start.ensures.falsified b.falsified c.start.ensures.blocked b.blocked c.requires.decisions c.requires.start c.in_ok-core.ensures

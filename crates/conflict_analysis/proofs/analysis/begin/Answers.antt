@@ -21,5 +21,5 @@ returns c =
     let same : length c.lits-len.result.now ≡ length c.args.trail.now.steps = ap length c.lits-len.ensures ∙ length-map c.args.trail.now.steps (λ x. x.lit) in
     let cleared = c.clear.ensures in
     let reached = c.reach.ensures in
-    resolving_begin c.args.store.now c.args.trail.now c.args.conflict c.get.result.now c.mark_all.new.self c.requires.rooted c.law_shape.ensures c.requires.live c.get.ensures.value c.requires.above
+    resolving_begin c.args.store.now c.args.trail.now c.args.conflict c.get.result.now c.mark_all.new.self c.law_shape.ensures c.requires.live c.get.ensures.value c.requires.above
     (rw c.get.ensures.value c.requires.reaches) (rw c.get.ensures.value c.requires.is_false) (rw same at c.in_ok-mark_all.ensures.marking) (rw same at c.in_ok-mark_all.ensures.covered) (rw (reached.met ∙ cleared.met) at c.in_ok-mark_all.ensures.from)

@@ -1,10 +1,13 @@
 use Rattle.std.proofs.Common.{◌≡◌}
+use Rattle.theory_bridge.specs.Shown.{facing}
+use Rattle.lazy_reasons.specs.Idle.{IsIdle}
 use Rattle.search_engine.specs.Searching.{Keeps, CountsFrom}
 use Rattle.search_engine.specs.Turns.{IsBetweenTurns, Passed, measure}
 use Rattle.search_engine.proofs.search.search.Given as goal
 
 abbrev pub invariant-loop-found : goal.invariant-loop-found
-invariant-loop-found l = record {
+invariant-loop-found g l = record {
+  idle : IsIdle (facing (λ b. (goal.Theory-dyn g b).meaning b.1) l.bridge);
   stands : IsBetweenTurns l.assumptions l.state;
   passed : Passed l.assumptions l.state l.cursor;
   keeps : Keeps l.fn.state l.state;
@@ -13,4 +16,4 @@ invariant-loop-found l = record {
 }
 
 abbrev pub decreases-loop-found : goal.decreases-loop-found
-decreases-loop-found l = measure l.state
+decreases-loop-found g l = measure l.state

@@ -3,5 +3,5 @@ use Rattle.conflict_analysis.proofs.scratch.Scratch.settle.Goals as goal
 
 pub returns-clause-resolved : goal.returns-clause-resolved
 returns-clause-resolved c =
-    resolved_settled c.args.store.now c.args.trail.now c.args.uip c.args.lit c.args.self.now c.note_spare.new.self c.law_shape.ensures c.requires.resolved c.requires.follows
-    (follows_wide c.args.store.now c.args.trail.now c.args.uip c.args.lit c.args.self.now c.law_room.ensures c.requires.resolved c.requires.follows) c.in_ok-note_spare.ensures
+    λ b w. resolved_settled c.args.store.now b c.args.trail.now c.args.uip c.args.lit c.args.self.now c.note_spare.new.self c.law_shape.ensures w c.requires.follows
+    (follows_wide c.args.store.now c.args.trail.now c.args.lit c.args.self.now c.law_room.ensures c.requires.wide c.requires.follows) c.in_ok-note_spare.ensures

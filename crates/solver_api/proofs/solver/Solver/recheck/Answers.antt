@@ -1,8 +1,7 @@
-use Rattle.std.proofs.Common.{◌≡◌, ◌∙◌, ap, arith, length, ◌+◌, ℕ, List}
+use Rattle.std.proofs.Common.{◌≡◌, ◌∙◌, ap, arith, length}
 use Rattle.std.specs.Prelude.{count_by}
 use Rattle.sat_terms.specs.Truth.{values, lit_true}
 use Rattle.solver_api.specs.Given.{part_true}
-use Rattle.solver_api.specs.declared.givens.GivenPart.{GivenPart}
 use Rattle.solver_api.proofs.RecheckLemmas.{all_counted}
 use Rattle.solver_api.proofs.solver.Solver.recheck.Goals as goal
 
