@@ -17,7 +17,8 @@ use Rattle.user_propagator.specs.Meaning.{InStep}
 use Rattle.theory_bridge.specs.Shown.{Shown}
 use Rattle.theory_bridge.specs.Going.{Asked}
 use Rattle.theory_bridge.specs.declared.stop.AskStop.TheVariants.{Callbacks}
-use Rattle.lazy_reasons.specs.Facing.{Mirrors, IsReady, IsAskDue}
+use Rattle.theory_bridge.specs.Following.{Mirrors}
+use Rattle.lazy_reasons.specs.Facing.{IsReady, IsAskDue}
 use Rattle.lazy_reasons.specs.Sources.{AreMet}
 use Rattle.lazy_reasons.specs.Idle.{IsIdle}
 

@@ -16,7 +16,8 @@ use Rattle.user_propagator.specs.Meaning.{Meaning, InStep, IsReasonGiven}
 use Rattle.theory_bridge.specs.Shown.{Shown}
 use Rattle.theory_bridge.proofs.Later.{stands_later}
 use Rattle.theory_bridge.specs.Going.{Asked}
-use Rattle.lazy_reasons.specs.Facing.{Mirrors, IsReady}
+use Rattle.theory_bridge.specs.Following.{Mirrors}
+use Rattle.lazy_reasons.specs.Facing.{IsReady}
 
 -- the place of a literal that is false on a front of the seen trail
 none_some : None ≡ Some false → ⊥
