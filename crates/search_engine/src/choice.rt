@@ -21,10 +21,10 @@ ghost use Rattle.lazy_reasons.specs.Idle.{IsIdle};
 ghost use Rattle.search_engine.specs.Searching.{clauses, Keeps, Shows};
 ghost use Rattle.search_engine.specs.Turns.{AllOn, IsBetweenTurns, Passed, TurnIs};
 
+use crate::clausal::core_clausal;
 use crate::conflict::Turn;
 use crate::cursor::Cursor;
 use crate::state::{Core, Found};
-use crate::clausal::core_clausal;
 use assumption_core::cores::CoreStart;
 use sat_model::literal::Lit;
 use sat_model::memory::Memory;

@@ -33,11 +33,11 @@ ghost use Rattle.lazy_reasons.specs.Idle.{IsIdle};
 ghost use Rattle.search_engine.specs.Searching.{clauses, AttachesLive, IsReady, Keeps};
 ghost use Rattle.search_engine.specs.Turns.{AssumesFirst, IsBetweenTurns, Jumped, KeepsCount, TurnIs};
 
+use crate::clausal::learn_clausal;
 use crate::forgetting::reduce;
 use crate::state::{Core, Found, Spent};
 use clause_store::store::Store;
 use clause_store::stored::Keep;
-use crate::clausal::learn_clausal;
 use conflict_analysis::analysis::{AnalyzeStop, Learned};
 use conflict_analysis::levels::highest;
 use decide_order::order::Order;

@@ -61,13 +61,13 @@ fn take_turn(
 ///
 /// The core must be ready for the assumptions, and its trail at the root. The propagator behind the
 /// bridge must rule nothing out, and must have been told nothing: it is not called yet, and is so
-/// afterwards too. `Sat` says that the
-/// core's model makes the firm clauses and the assumptions true; its values are those of the trail,
-/// where all declared variables have one. `Unsat` has a core: some of the assumptions, none twice,
-/// that no assignment which makes the stored clauses true makes true. `Spent` comes only where as
-/// many conflicts were counted in this search as the budget says, below 2^62. Whatever is answered,
-/// `Memory` too, the firm clauses stay, what was learned follows from the clauses, the core stands
-/// (`pause` lays it to rest), and the tally's count is the rise of its total in this search.
+/// afterwards too. `Sat` says that the core's model makes the firm clauses and the assumptions true;
+/// its values are those of the trail, where all declared variables have one. `Unsat` has a core: some
+/// of the assumptions, none twice, that no assignment which makes the stored clauses true makes true.
+/// `Spent` comes only where as many conflicts were counted in this search as the budget says, below
+/// 2^62. Whatever is answered, `Memory` too, the firm clauses stay, what was learned follows from the
+/// clauses, the core stands (`pause` lays it to rest), and the tally's count is the rise of its total
+/// in this search.
 pub fn search(
     alloc: Global,
     state: &mut Core,

@@ -3,4 +3,3 @@ use Rattle.search_engine.proofs.clausal.core_clausal.Goals as goal
 
 pub core_of-requires-clause-ready : goal.core_of-requires-clause-ready
 core_of-requires-clause-ready g c = idle_ready _ _ _ c.requires.idle c.requires.rooted
-

@@ -3,4 +3,3 @@ use Rattle.search_engine.proofs.clausal.learn_clausal.Goals as goal
 
 pub analyze-requires-clause-ready : goal.analyze-requires-clause-ready
 analyze-requires-clause-ready g c = idle_ready _ _ _ c.requires.idle c.requires.rooted
-
