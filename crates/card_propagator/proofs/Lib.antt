@@ -1,0 +1,10 @@
+pub mod Tallying
+pub mod Waiting
+pub mod Valuing
+pub mod Keeping
+pub mod Finding
+pub mod Admitting
+pub mod Semantics
+pub mod Placed
+pub mod Lawful
+pub mod Running
