@@ -1,5 +1,5 @@
 -- How the laws of a propagator follow for cardinalities.
-use Rattle.std.proofs.Common.{◌≡◌, ◌≢◌, ◌⊎◌, ℕ, zero, suc, ◌+◌, ◌-◌, ◌*◌, ◌<◌, ◌≤◌, Bool, true, false, not, ◌&&◌, ◌||◌, cond, eqb, leb, ltb, List, [], ◌∷◌, ◌++◌, length, map, take, get_or, set, Result, Ok, Err, OnOk, IfSome, Option, Some, None, All, Any, Contains, inl, inr, refl, sym, ap, ◌∙◌, subst, arith}
+use Rattle.std.proofs.Common.{◌≡◌, ◌≢◌, ◌⊎◌, ℕ, zero, suc, ◌+◌, ◌-◌, ◌*◌, ◌<◌, ◌≤◌, Bool, true, false, not, ◌&&◌, ◌||◌, cond, eqb, leb, ltb, List, [], ◌∷◌, ◌++◌, length, map, take, get_or, set, Result, Ok, Err, OnOk, OnErr, IfSome, Option, Some, None, All, Any, Contains, inl, inr, refl, sym, ap, ◌∙◌, subst, arith}
 use Rattle.std.specs.List.{count_by, list_any, list_all, flat_map, filter}
 use Rattle.std.proofs.lemmas.Bool.{cases_eq, cases_lt, cases_Bool, eq-eqb, ne_eqb, lt-ltb, ltb-true, leb-true, le-leb, and_parts, and_from, or_cases, or_left, or_right, or_from, eqb-true, false≢true, false_from_ne_true}
 use Rattle.std.proofs.lemmas.List.{take_more, get_or-set_same, get_or-set_other, get_or_past, length-set, append-nil}
@@ -17,9 +17,9 @@ use Rattle.user_propagator.specs.Meaning.{counted_lits}
 use Rattle.sat_model.specs.declared.constraint.Constraint.{Constraint}
 use Rattle.sat_model.specs.declared.constraint.Constraint.TheVariants.{AtLeast, Parity}
 use Rattle.sat_model.specs.declared.constraint.Kind.TheVariants.{Card}
-use Rattle.user_propagator.specs.Board.{Board, Handed, SeenTrail, entry, trail_of, trail_value, with_handed, within, empty_trail, trail_place}
+use Rattle.user_propagator.specs.Board.{Board, Handed, SeenTrail, entry, trail_of, trail_value, with_handed, within, empty_trail, trail_place, IsSeenTrail}
 use Rattle.user_propagator.specs.declared.seen.Seen.{Seen}
-use Rattle.user_propagator.proofs.Lawful.{called_idle, called_handing}
+use Rattle.user_propagator.proofs.Lawful.{called_idle, called_handing, value_holds}
 use Rattle.user_propagator.specs.Meaning.{Meaning, Counted, Notified, CanPut, CanRaise, CanCut, put_on, raise_on, cut_to, InStep, KeepsExplained, IsExplainedAt, CalledBack, IsImplied, IsReasonGiven, StandsAt, Admitted, Refused, KeptByAdmit, AreObserved, IsFalseSeen, IsRefuted, MakesTrue, next_count, handed_now}
 use Rattle.card_propagator.specs.declared.told.Told.{Told}
 use Rattle.clause_store.specs.Listing.{times}
@@ -31,8 +31,9 @@ use Rattle.card_propagator.specs.Cards.{are_kept, vars_of, is_forced, can_explai
 use Rattle.clause_store.proofs.Counts.{times-cons, times_at, times_place}
 use Rattle.card_propagator.proofs.Valuing.{seen_value, untold_seen, seen_untold, first_put, apart_put, first_cut, apart_cut, within_put, within_raise, within_cut, follows, followed}
 use Rattle.card_propagator.proofs.Admitting.{count_same}
-use Rattle.card_propagator.proofs.Semantics.{explain_more, explain_from, explain_find, broken_true, reason_true, forced_true, fallen_same, fallen_false, falses_seen, trues_seen, value_seen, open_false, but_false, settled_quiet, card_count, kept_at, false_on}
+use Rattle.card_propagator.proofs.Semantics.{explain_more, explain_from, explain_find, broken_true, reason_true, forced_true, fallen_same, fallen_false, falses_seen, trues_seen, value_seen, open_false, but_false, settled_quiet, card_count, kept_at}
 use Rattle.card_propagator.proofs.Placed.{place_is, no_place}
+use Rattle.card_propagator.proofs.Knowing.{card_known}
 use Rattle.std.proofs.Math.Seq.{drop-append_seam, drop-length}
 
 -- notifications
@@ -121,6 +122,10 @@ pub ok_anyway : {A E : Type 0} (r : Result A E) (P : Type 0) → P → OnOk r P
 ok_anyway (Ok a) P h = h
 ok_anyway (Err e) P h = tt
 
+pub err_anyway : {A E : Type 0} (r : Result A E) (P : Type 0) → P → OnErr r P
+err_anyway (Ok a) P h = tt
+err_anyway (Err e) P h = h
+
 pub held_rule : (rules : List Constraint) (k l : ℕ) → 0 < times (lits_at rules k) l → k < length rules
 held_rule rules k l pos = elim (cases_lt k (length rules)) [
   | inl lt ↦ lt
@@ -184,54 +189,54 @@ ok_map (Err e) P Q k h = h
 -- what is handed where a rule is broken
 pub card_handed : (c d : Counting) (asked accepted n k : ℕ) (b now : Board) → d ≡ c → n ≡ next_count asked → IsProper c → InStep (card_meaning c asked accepted) b → k < length c.rules → IsBroken c.table (bound_at c.rules k) (lits_at c.rules k)
     → now ≡ with_handed b (filter (λ x. is_false (value d.table x)) (lits_at d.rules k)) false
-    → AreObserved b (filter (λ x. is_false (value d.table x)) (lits_at d.rules k))
+    → IsSeenTrail b.observed b.seen b.level
     → CalledBack (card_meaning c asked accepted) (card_meaning d n accepted) b now
-card_handed c d asked accepted n k b now e en law_proper step lt broken is observed =
+card_handed c d asked accepted n k b now e en proper step lt broken is shape =
     let f = follows c.table c.level (trail_of b) step in
     let lits = lits_at c.rules k in
     let clause = filter (λ x. is_false (value c.table x)) lits in
-    let same : clause ≡ fallen b.seen lits = fallen_same c.table c.level (trail_of b) lits f (law_proper.known k) in
-    let down = falses_seen c.table c.level (trail_of b) lits f (law_proper.known k) in
+    let same : clause ≡ fallen b.seen lits = fallen_same c.table c.level (trail_of b) lits f (proper.known k) in
+    let down = falses_seen c.table c.level (trail_of b) lits f (proper.known k) in
     let is' : now ≡ with_handed b clause false = subst (λ (x : Counting). now ≡ with_handed b (filter (λ y. is_false (value x.table y)) (lits_at x.rules k)) false) e is in
-    let observed' : AreObserved b clause = subst (λ (x : Counting). AreObserved b (filter (λ y. is_false (value x.table y)) (lits_at x.rules k))) e observed in
+    let observed' = card_known c asked accepted k b proper step shape in
     subst (λ x. CalledBack (card_meaning c asked accepted) (card_meaning d n accepted) b x) (sym is')
     (called_handing (card_meaning c asked accepted) (card_meaning d n accepted) b clause false (record { same = rw (e, en) refl }) step
     observed'.each
-    (λ m adm. subst (λ x. clause_true m x ≡ true) (sym same) (broken_true m b.seen (bound_at c.rules k) lits (card_count m (rule c.rules k) (law_proper.cards k) (kept_at m c.rules k adm lt)) (omega (arith, broken.short, down, open_false b.seen lits))))
+    (λ m adm. subst (λ x. clause_true m x ≡ true) (sym same) (broken_true m b.seen (bound_at c.rules k) lits (card_count m (rule c.rules k) (proper.cards k) (kept_at m c.rules k adm lt)) (omega (arith, broken.short, down, open_false b.seen lits))))
     (inl (subst (IsFalseSeen b.seen) (sym same) (fallen_false b.seen lits))))
 
 -- what is propagated
 pub card_implied : (c d : Counting) (asked accepted n k l : ℕ) (b : Board) → d ≡ c → IsProper c → InStep (card_meaning c asked accepted) b → k < length c.rules → IsForced c.table (bound_at c.rules k) (lits_at c.rules k) l → has b.observed (var_of l) ≡ true → IsImplied (card_meaning d n accepted) b l
-card_implied c d asked accepted n k l b e law_proper step lt forced observed =
+card_implied c d asked accepted n k l b e proper step lt forced observed =
     let f = follows c.table c.level (trail_of b) step in
     let lits = lits_at c.rules k in
-    let kn = law_proper.known k l forced.holds in
-    let down = falses_seen c.table c.level (trail_of b) lits f (law_proper.known k) in
+    let kn = proper.known k l forced.holds in
+    let down = falses_seen c.table c.level (trail_of b) lits f (proper.known k) in
     let free : trail_value b.seen l ≡ None = sym (value_seen c.table c.level (trail_of b) l f kn.0 kn.1) ∙ forced.free in
     let short : open_but b.seen l lits < bound_at c.rules k = omega (arith, forced.short, down, but_false b.seen l lits free) in
     let yes : is_forced b.seen l (rule c.rules k) ≡ true = and_from (ltb 0 (times lits l)) (ltb (open_but b.seen l lits) (bound_at c.rules k)) (lt-ltb 0 (times lits l) forced.holds) (lt-ltb (open_but b.seen l lits) (bound_at c.rules k) short) in
     subst (λ (x : Counting). IsImplied (card_meaning x n accepted) b l) (sym e) record {
       free = (observed, free);
-      implied = λ m adm made. forced_true m b.seen (bound_at c.rules k) l lits made (card_count m (rule c.rules k) (law_proper.cards k) (kept_at m c.rules k adm lt)) short;
+      implied = λ m adm made. forced_true m b.seen (bound_at c.rules k) l lits made (card_count m (rule c.rules k) (proper.cards k) (kept_at m c.rules k adm lt)) short;
       explained = explain_from c.rules b.seen l k lt yes;
     }
 
 pub card_quiet : (c : Counting) (asked accepted : ℕ) (b : Board) → IsProper c → InStep (card_meaning c asked accepted) b → AllSettled c.rules c.table → AreQuiet c.rules b.seen
-card_quiet c asked accepted b law_proper step all =
+card_quiet c asked accepted b proper step all =
     let f = follows c.table c.level (trail_of b) step in
-    record { each = λ k lt. settled_quiet c.table c.level (trail_of b) (bound_at c.rules k) (lits_at c.rules k) f (law_proper.known k) (all.each k lt) }
+    record { each = λ k lt. settled_quiet c.table c.level (trail_of b) (bound_at c.rules k) (lits_at c.rules k) f (proper.known k) (all.each k lt) }
 
 -- a lazy reason
 pub card_reason : (c d : Counting) (asked accepted n k place j l : ℕ) (b : Board) (out : List ℕ) → d ≡ c → IsProper c → InStep (card_meaning c asked accepted) b
     → trail_place b.seen (var_of l) ≡ Some place → k < length d.rules → is_forced (take place b.seen) l (rule d.rules k) ≡ true
     → out ≡ l ∷ fallen (take place b.seen) (lits_at d.rules k)
     → StandsAt (card_meaning c asked accepted) b.seen j l → IsReasonGiven (card_meaning d n accepted) b.seen j l out
-card_reason c d asked accepted n k place j l b out e law_proper step at lt forced is stands =
+card_reason c d asked accepted n k place j l b out e proper step at lt forced is stands =
     let f = follows c.table c.level (trail_of b) step in
     let same : place ≡ j = place_is b.seen j l place f.apart stands.inside stands.place at in
     let lits = lits_at d.rules k in
     let short = ltb-true (open_but (take place b.seen) l lits) (bound_at d.rules k) (and_parts (ltb 0 (times lits l)) (ltb (open_but (take place b.seen) l lits) (bound_at d.rules k)) forced).1 in
-    let law_proper' : IsProper d = subst IsProper (sym e) law_proper in
+    let proper' : IsProper d = subst IsProper (sym e) proper in
     let out' : out ≡ l ∷ fallen (take j b.seen) lits = is ∙ ap (λ p. l ∷ fallen (take p b.seen) lits) same in
     let short' : open_but (take j b.seen) l lits < bound_at d.rules k = subst (λ (p : ℕ). open_but (take p b.seen) l lits < bound_at d.rules k) same short in
     rw out' record {
@@ -240,25 +245,25 @@ card_reason c d asked accepted n k place j l b out e law_proper step at lt force
         | inl y ↦ absurd (n (sym (eqb-true l x y)))
         | inr more ↦ fallen_false (take j b.seen) lits x more
       ];
-      implied = λ m adm. reason_true m (take j b.seen) (bound_at d.rules k) l lits (card_count m (rule d.rules k) (law_proper'.cards k) (kept_at m d.rules k adm lt)) short';
+      implied = λ m adm. reason_true m (take j b.seen) (bound_at d.rules k) l lits (card_count m (rule d.rules k) (proper'.cards k) (kept_at m d.rules k adm lt)) short';
     }
 
 -- a clause that is false on the trail is false where the trail is true
 all_false : (m : Assignment) (seen : List Seen) (c : List ℕ) → MakesTrue m seen → IsFalseSeen seen c → clause_true m c ≡ false
 all_false m seen c made h = false_from_ne_true (clause_true m c) (λ y.
     let s = clause_true-some m c y in
-    false≢true (sym (false_on m seen s.0 made (h s.0 s.1)) ∙ s.2))
+    false≢true (sym (value_holds m seen s.0 false made (h s.0 s.1)) ∙ s.2))
 
 -- a handed clause that the model makes false
 pub card_said_no : (c : Counting) (asked accepted k : ℕ) (b now : Board) (model : List Bool) → IsProper c → InStep (card_meaning c asked accepted) b → MakesTrue (values model) b.seen
     → now ≡ with_handed b (filter (λ x. is_false (value c.table x)) (lits_at c.rules k)) false
     → IsRefuted model b now
-card_said_no c asked accepted k b now model law_proper step made is =
+card_said_no c asked accepted k b now model proper step made is =
     let f = follows c.table c.level (trail_of b) step in
     let lits = lits_at c.rules k in
     let clause = filter (λ x. is_false (value c.table x)) lits in
     let h : Handed = record { clause = clause; forgettable = false } in
-    let same : clause ≡ fallen b.seen lits = fallen_same c.table c.level (trail_of b) lits f (law_proper.known k) in
+    let same : clause ≡ fallen b.seen lits = fallen_same c.table c.level (trail_of b) lits f (proper.known k) in
     let no' : clause_true (values model) clause ≡ false = ap (clause_true (values model)) same ∙ all_false (values model) b.seen (fallen b.seen lits) made (fallen_false b.seen lits) in
     rw is (rw (drop-append_seam b.handed (h ∷ [])) (0, h, omega arith, refl, no'))
 
@@ -275,22 +280,22 @@ hands_none b now e = rw e (rw (drop-length b.handed) (All-nil _))
 
 pub hands_one : (c d : Counting) (asked accepted k : ℕ) (b now : Board) → d ≡ c → IsProper c → InStep (card_meaning c asked accepted) b
     → now ≡ with_handed b (filter (λ x. is_false (value d.table x)) (lits_at d.rules k)) false → HandsFalse b now
-hands_one c d asked accepted k b now e law_proper step is =
+hands_one c d asked accepted k b now e proper step is =
     let f = follows c.table c.level (trail_of b) step in
     let lits = lits_at c.rules k in
     let clause = filter (λ x. is_false (value c.table x)) lits in
     let h : Handed = record { clause = clause; forgettable = false } in
     let is' : now ≡ with_handed b clause false = subst (λ (x : Counting). now ≡ with_handed b (filter (λ y. is_false (value x.table y)) (lits_at x.rules k)) false) e is in
-    let same : clause ≡ fallen b.seen lits = fallen_same c.table c.level (trail_of b) lits f (law_proper.known k) in
+    let same : clause ≡ fallen b.seen lits = fallen_same c.table c.level (trail_of b) lits f (proper.known k) in
     let P : Handed → Type 0 = λ x. IsFalseSeen b.seen x.clause in
     let p : P h = subst (IsFalseSeen b.seen) (sym same) (fallen_false b.seen lits) in
     rw is' (rw (drop-append_seam b.handed (h ∷ [])) (All-cons P h [] p (All-nil P)))
 
 pub counts_exact : (c : Counting) (asked accepted k up down : ℕ) (b : Board) → IsProper c → InStep (card_meaning c asked accepted) b → up ≡ trues c.table (lits_at c.rules k) → down ≡ falses c.table (lits_at c.rules k)
     → (up ≡ true_count b.seen (lits_at c.rules k)) × (down ≡ false_count b.seen (lits_at c.rules k))
-counts_exact c asked accepted k up down b law_proper step u d =
+counts_exact c asked accepted k up down b proper step u d =
     let f = follows c.table c.level (trail_of b) step in
-    (u ∙ trues_seen c.table c.level (trail_of b) (lits_at c.rules k) f (law_proper.known k), d ∙ falses_seen c.table c.level (trail_of b) (lits_at c.rules k) f (law_proper.known k))
+    (u ∙ trues_seen c.table c.level (trail_of b) (lits_at c.rules k) f (proper.known k), d ∙ falses_seen c.table c.level (trail_of b) (lits_at c.rules k) f (proper.known k))
 
 -- where no holder forces the literal, nothing explains it
 pub none_explains : (rules : List Constraint) (ids : List ℕ) (seen : List Seen) (l : ℕ) → ((k : ℕ) → times ids k ≡ times (lits_at rules k) l) → ((j : ℕ) → j < length ids → is_forced seen l (rule rules (get_or ids j 0)) ≡ false) → can_explain rules seen l ≡ false

@@ -6,5 +6,6 @@ pub mod Finding
 pub mod Admitting
 pub mod Semantics
 pub mod Placed
+pub mod Knowing
 pub mod Lawful
 pub mod Running

@@ -16,6 +16,7 @@ use Rattle.sat_model.specs.declared.constraint.Kind.TheVariants as kinds
 use Rattle.user_propagator.specs.Board.{trail_value, SeenTrail}
 use Rattle.user_propagator.specs.Meaning.{MakesTrue}
 use Rattle.user_propagator.specs.Meaning.{IsFalseSeen}
+use Rattle.user_propagator.proofs.Lawful.{value_holds}
 use Rattle.user_propagator.specs.declared.seen.Seen.{Seen}
 use Rattle.card_propagator.specs.declared.told.Told.{Told}
 use Rattle.clause_store.specs.Listing.{times}
@@ -55,22 +56,6 @@ one_of_three : (a b : Bool) → (a ≡ true → b ≡ false) → cond {A = ℕ} 
 one_of_three true b h = rw (h refl) refl
 one_of_three false true h = refl
 one_of_three false false h = refl
-
--- what is false on the trail is false where the trail is true
-pub false_on : (m : Assignment) (seen : List Seen) (l : ℕ) → MakesTrue m seen → trail_value seen l ≡ Some false → lit_true m l ≡ false
-false_on m [] l made h = cc
-false_on m (e ∷ es) l made h =
-    let P : Seen → Type 0 = λ x. lit_true m x.lit ≡ true in
-    elim (cases_eq e.lit l) [
-      | inl q ↦ let k : ◌≡◌ {A = Option Bool} (Some true) (Some false) = rw (eq-eqb e.lit l q) at h in cc
-      | inr n ↦ elim (cases_eq e.lit (neg l)) [
-        | inl q ↦
-            let head : lit_true m e.lit ≡ true = All-head P e es made in
-            let flipped : not (lit_true m l) ≡ true = sym (lit_true-neg m l) ∙ ap (lit_true m) (sym q) ∙ head in
-            not_true (lit_true m l) flipped
-        | inr d ↦ false_on m es l (All-tail P e es made) (rw (ne_eqb e.lit l n, ne_eqb e.lit (neg l) d) at h)
-      ]
-    ]
 
 -- counts by tests of which one implies the other on the list
 pub count_le : (p q : ℕ → Bool) (c : List ℕ) → ((l : ℕ) → 0 < times c l → p l ≡ true → q l ≡ true) → count_by p c ≤ count_by q c
@@ -139,7 +124,7 @@ forced_true m seen bound l c made kept short =
       | inr n ↦
           let le = count_le (lit_true m) (λ x. not (is_false (trail_value seen x)) && not (eqb x l)) c (λ x pos t.
           and_from (not (is_false (trail_value seen x))) (not (eqb x l))
-          (elim (cases_Bool (is_false (trail_value seen x))) [ inl y ↦ let k : true ≡ false = sym t ∙ false_on m seen x made (false_some (trail_value seen x) y) in cc | inr f ↦ ap not f ])
+          (elim (cases_Bool (is_false (trail_value seen x))) [ inl y ↦ let k : true ≡ false = sym t ∙ value_holds m seen x false made (false_some (trail_value seen x) y) in cc | inr f ↦ ap not f ])
           (ap not (ne_eqb x l (λ e. let k : true ≡ false = sym t ∙ ap (lit_true m) e ∙ n in cc)))) in
           absurd (omega (arith, le))
     ]

@@ -1,5 +1,5 @@
 -- What a propagator of cardinalities means.
-use Rattle.std.specs.Prelude.{ℕ, ◌≡◌, ◌+◌, ◌&&◌, ◌≤◌, ◌<◌, Bool, true, false, List, [], ◌∷◌, ◌++◌, length, map, count_by, not, ◌%◌, ◌==◌, nat_le, nat_lt, Option, None, Some, All, Contains}
+use Rattle.std.specs.Prelude.{◌⊎◌, ℕ, ◌≡◌, ◌+◌, ◌&&◌, ◌≤◌, ◌<◌, Bool, true, false, List, [], ◌∷◌, ◌++◌, length, map, count_by, not, ◌%◌, ◌==◌, nat_le, nat_lt, Option, None, Some, All, Contains}
 use Rattle.std.specs.List.{list_all, list_any, flat_map, filter}
 use Rattle.std.proofs.Common.{refl, ap, ◌∙◌, cond, sym, subst, inl, inr, eqb}
 use Rattle.std.proofs.lemmas.Bool.{cases_Bool, or_left, or_right, eq-eqb}
@@ -13,7 +13,7 @@ use Rattle.user_propagator.specs.Meaning.{counted_lits}
 use Rattle.sat_model.specs.declared.constraint.Constraint.{Constraint}
 use Rattle.sat_model.specs.declared.constraint.Constraint.TheVariants.{AtLeast, Parity}
 use Rattle.sat_model.specs.declared.constraint.Kind.TheVariants as kinds
-use Rattle.user_propagator.specs.Board.{Board, trail_value, empty_trail}
+use Rattle.user_propagator.specs.Board.{Board, trail_value, empty_trail, with_handed}
 use Rattle.user_propagator.specs.Meaning.{Meaning, DependsOnScope, handed_now, IsFalseSeen}
 use Rattle.user_propagator.specs.declared.seen.Seen.{Seen}
 use Rattle.clause_store.specs.Listing.{times}
@@ -53,6 +53,32 @@ pub record AreQuiet (rules : List Constraint) (seen : List Seen) : Type 0 where
 abbrev pub IsQuietIfNone : List Constraint → Board → Board → Option ℕ → Type 0
 IsQuietIfNone rules was now None = handed_now was now ≡ [] → AreQuiet rules was.seen
 IsQuietIfNone rules was now (Some l) = Unit {0}
+
+-- the variables of the cardinalities are observed
+abbrev pub AreAllObserved : List Constraint → Board → Type 0
+AreAllObserved rules b = (v : ℕ) → has (flat_map vars_of rules) v ≡ true → has b.observed v ≡ true
+
+-- too few positions of a cardinality are open
+pub record HasBroken (rules : List Constraint) (seen : List Seen) : Type 0 where
+  pub which : ℕ
+  pub within : which < length rules
+  pub short : open_count seen (lits_at rules which) < bound_at rules which
+
+-- where all variables are observed, memory is wanted for the clause of a broken cardinality alone
+abbrev pub WantsForAClause : List Constraint → Board → Type 0
+WantsForAClause rules b = AreAllObserved rules b → HasBroken rules b.seen
+
+-- the false literals of a broken cardinality were handed, to be kept
+pub record HandsBroken (rules : List Constraint) (was now : Board) : Type 0 where
+  pub which : ℕ
+  pub within : which < length rules
+  pub short : open_count was.seen (lits_at rules which) < bound_at rules which
+  pub left : now ≡ with_handed was (fallen was.seen (lits_at rules which)) false
+
+-- what propagation leaves on the desk: nothing, but for one clause where a cardinality is broken
+abbrev pub LeftBy : List Constraint → Board → Board → Option ℕ → Type 0
+LeftBy rules was now None = ((now ≡ was) × AreQuiet rules was.seen) ⊎ HandsBroken rules was now
+LeftBy rules was now (Some l) = now ≡ was
 
 -- only clauses that are false on the trail are handed
 abbrev pub HandsFalse : Board → Board → Type 0

@@ -31,7 +31,7 @@ ghost use Rattle.user_propagator.specs.Meaning.{InStep, CalledBack, IsPropagated
 ghost use Rattle.card_propagator.specs.Values.{true_count, false_count};
 ghost use Rattle.card_propagator.specs.Counting.{lits_at, rule};
 ghost use Rattle.card_propagator.specs.Meant.{meaning_of};
-ghost use Rattle.card_propagator.specs.Cards.{card_meaning, card_depends, no_cards, IsFresh, IsQuietIfNone, HandsFalse};
+ghost use Rattle.card_propagator.specs.Cards.{card_meaning, card_depends, no_cards, IsFresh, IsQuietIfNone, HandsFalse, HandsBroken, LeftBy, WantsForAClause};
 
 use crate::clauses::{add_fallen, find_reason, first_unkept, hand_false, is_broken};
 use crate::counter::Counter;
@@ -185,19 +185,25 @@ impl Theory for CardTheory {
 
     /// Implies a literal, or hands the clause of the false literals of a cardinality that is broken.
     /// Where it answers `None` and hands nothing, nothing follows from any cardinality: enough
-    /// positions are open, and are so without any one literal that has no value. `Memory` comes also
-    /// where a variable that would be spoken of is not observed, which no driver meets that observes
-    /// what it has admitted: for a steady propagator the laws leave no other answer there.
+    /// positions are open, and are so without any one literal that has no value. It leaves nothing else
+    /// on the desk, and nothing after `Memory`, which comes where there is none for a clause. It comes also where the literal that follows is not of an observed
+    /// variable: for a steady propagator the laws leave no other answer there, and no driver meets it
+    /// that observes what it has admitted.
     fn propagate(&mut self, desk: &mut Desk) -> Result<Option<Lit>, Memory>
         requires step { InStep (meaning_of self.old) desk.old }
         ensures called { CalledBack (meaning_of self.old) (meaning_of self.new) desk.old desk.new }
         ensures propagated { IfOk result (IsPropagated (meaning_of self.new) desk.old) }
         ensures none { IfOk result (IsQuietIfNone self.old.counter.rules desk.old desk.new) }
         ensures handed { HandsFalse desk.old desk.new }
+        ensures left { IfOk result (LeftBy self.old.counter.rules desk.old desk.new) }
+        ensures kept { OnErr result (desk.new ≡ desk.old) }
+        ensures refused { OnErr result (WantsForAClause self.old.counter.rules desk.old) }
         ensures rules { self.new.counter.rules ≡ self.old.counter.rules }
     {
-        // Each rule is a cardinality over known variables: what is found speaks of the seen trail.
+        // Each rule is a cardinality over known variables: what is found speaks of the seen trail,
+        // whose variables are observed.
         self.counter.law_proper();
+        desk.law_shape();
         let found = self.counter.search();
         self.asked = next(self.asked);
         match found {
@@ -240,8 +246,9 @@ impl Theory for CardTheory {
     }
 
     /// Whether the model makes every cardinality true. Where it does not, the false literals of the
-    /// first one that it breaks are handed. `Memory` comes also where a variable of that one is not
-    /// observed.
+    /// first one that it breaks are handed. Nothing else is left on the desk, and nothing
+    /// after `Memory`, which comes where there is none for that clause, and also where a variable of
+    /// that one is not observed.
     fn check(&mut self, model: &[bool], desk: &mut Desk) -> Result<bool, Memory>
         requires step { InStep (meaning_of self.old) desk.old }
         requires whole { IsWhole desk.old model.now }
@@ -249,9 +256,14 @@ impl Theory for CardTheory {
         ensures yes { IfOk result (λ yes. yes ≡ true → (meaning_of self.new).admits (values model.now) ≡ true) }
         ensures no { IfOk result (λ yes. yes ≡ false → IsRefuted model.now desk.old desk.new) }
         ensures handed { HandsFalse desk.old desk.new }
+        ensures accepted { IfOk result (λ yes. yes ≡ true → desk.new ≡ desk.old) }
+        ensures rejected { IfOk result (λ yes. yes ≡ false → HandsBroken self.old.counter.rules desk.old desk.new) }
+        ensures kept { OnErr result (desk.new ≡ desk.old) }
+        ensures refused { OnErr result (WantsForAClause self.old.counter.rules desk.old) }
         ensures rules { self.new.counter.rules ≡ self.old.counter.rules }
     {
         self.counter.law_proper();
+        desk.law_shape();
         self.asked = next(self.asked);
         let Some(k) = first_unkept(&self.counter, model) else {
             return Ok(true);

@@ -10,7 +10,7 @@ ghost use Rattle.std.specs.Prelude.{◌≡◌, ◌≤◌, ◌<◌, ◌+◌, ◌^
 ghost use Rattle.sat_terms.specs.Literal.{has, var_of};
 ghost use Rattle.sat_terms.specs.Truth.{values};
 ghost use Rattle.user_propagator.specs.Board.{trail_value, with_handed};
-ghost use Rattle.user_propagator.specs.Meaning.{AreObserved};
+ghost use Rattle.sat_model.specs.Constraint.{constraint_true as is_kept};
 ghost use Rattle.clause_store.specs.Listing.{times};
 ghost use Rattle.card_propagator.specs.Values.{value, is_false, open_but};
 ghost use Rattle.card_propagator.specs.Counting.{lits_at, bound_at, rule};
@@ -27,38 +27,28 @@ use sat_model::truth::constraint_true;
 use std::alloc::Global;
 use user_propagator::desk::Desk;
 
-// Appends a literal that is false, if its variable is observed.
-fn add_false(clause: &mut Lits, counter: &Counter, lit: Lit, desk: &Desk) -> Result<(), Memory>
-    ensures ok { OnOk result (clause.new ≡ clause.old ++ cond (is_false (value counter.now.table lit)) (lit ∷ []) []) }
-    ensures observed { OnOk result (is_false (value counter.now.table lit) ≡ true → has desk.now.observed (var_of lit) ≡ true) }
+// Appends a literal that is false.
+fn add_false(clause: &mut Lits, counter: &Counter, lit: Lit) -> Result<(), Memory>
+    ensures { OnOk result (clause.new ≡ clause.old ++ cond (is_false (value counter.now.table lit)) (lit ∷ []) []) }
 {
     if let Some(false) = counter.value(lit) {
-        if !desk.is_observed(lit.var()) {
-            return Err(Memory);
-        }
         clause.push(lit)?;
     }
     Ok(())
 }
 
 // The literals of a list that are false.
-fn false_literals(
-    alloc: Global,
-    counter: &Counter,
-    lits: &[Lit],
-    desk: &Desk,
-) -> Result<Lits, Memory>
-    ensures lits { IfOk result (λ c. c ≡ filter (λ x. is_false (value counter.now.table x)) lits.now) }
-    ensures observed { IfOk result (λ c. AreObserved desk.now c) }
+fn false_literals(alloc: Global, counter: &Counter, lits: &[Lit]) -> Result<Lits, Memory>
+    ensures { IfOk result (λ c. c ≡ filter (λ x. is_false (value counter.now.table x)) lits.now) }
 {
     let mut clause = Lits::new(alloc);
     for lit in lits {
-        add_false(&mut clause, counter, *lit, desk)?;
+        add_false(&mut clause, counter, *lit)?;
     }
     Ok(clause)
 }
 
-// Hands the literals of a cardinality that are false.
+// Hands the literals of a cardinality that are false. After `Memory` nothing was handed.
 pub(crate) fn hand_false(
     alloc: Global,
     counter: &Counter,
@@ -67,10 +57,9 @@ pub(crate) fn hand_false(
 ) -> Result<(), Memory>
     requires { k < length counter.now.rules }
     ensures ok { OnOk result (desk.new ≡ with_handed desk.old (filter (λ x. is_false (value counter.now.table x)) (lits_at counter.now.rules k)) false) }
-    ensures observed { OnOk result (AreObserved desk.old (filter (λ x. is_false (value counter.now.table x)) (lits_at counter.now.rules k))) }
     ensures err { OnErr result (desk.new ≡ desk.old) }
 {
-    let clause = false_literals(alloc, counter, lits_of(counter.rule(k)), desk)?;
+    let clause = false_literals(alloc, counter, lits_of(counter.rule(k)))?;
     desk.hand(clause.as_slice(), false)
 }
 
@@ -78,6 +67,7 @@ pub(crate) fn hand_false(
 pub(crate) fn first_unkept(counter: &Counter, model: &[bool]) -> Option<usize>
     ensures none { IfNone result (are_kept (values model.now) counter.now.rules ≡ true) }
     ensures some { IfSome result (λ k. k < length counter.now.rules) }
+    ensures unkept { IfSome result (λ k. is_kept (values model.now) (rule counter.now.rules k) ≡ false) }
 {
     for k in 0..counter.len() {
         if !constraint_true(model, counter.rule(k)) {

@@ -14,3 +14,6 @@ pub loop-k-preserved : goal.loop-k-preserved
 loop-k-preserved c =
     let lt : c.loop-k.k < length c.args.counter.now.rules = omega (arith, c.len-k-end.ensures, c.loop-k-test.true) in
     kept_more _ _ _ lt c.loop-k.invariant (ap (constraint_true (values c.args.model.now)) (sym c.rule.ensures) ∙ sym c.constraint_true.ensures ∙ c.if-not-constraint_true.false)
+
+pub returns-then-not-constraint_true-clause-unkept : goal.returns-then-not-constraint_true-clause-unkept
+returns-then-not-constraint_true-clause-unkept c = ap (constraint_true (values c.args.model.now)) (sym c.rule.ensures) ∙ sym c.constraint_true.ensures ∙ c.if-not-constraint_true.true
