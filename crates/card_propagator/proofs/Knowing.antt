@@ -86,9 +86,9 @@ card_refuted c k b model proper whole all lt unkept =
     let lits = lits_at c.rules k in
     let few = card_short m (rule c.rules k) (proper.cards k) unkept in
     let le = count_le (λ x. not (is_false (trail_value b.seen x))) (lit_true m) lits (λ l pos open_now.
-        let v = whole_value b model l whole (card_observed c.rules b k l all lt pos) in
-        let t : lit_true m l ≡ v.0 = value_holds m b.seen l v.0 whole.agrees v.1 in
-        t ∙ opened v.0 (sym (ap (λ o. not (is_false o)) v.1) ∙ open_now)) in
+    let v = whole_value b model l whole (card_observed c.rules b k l all lt pos) in
+    let t : lit_true m l ≡ v.0 = value_holds m b.seen l v.0 whole.agrees v.1 in
+    t ∙ opened v.0 (sym (ap (λ o. not (is_false o)) v.1) ∙ open_now)) in
     record { which = k; within = lt; short = omega (arith, few, le) } where
       opened : (v : Bool) → not (not v) ≡ true → v ≡ true
       opened true h = refl

@@ -8,4 +8,5 @@ pub mod Semantics
 pub mod Placed
 pub mod Knowing
 pub mod Lawful
+pub mod Boards
 pub mod Running

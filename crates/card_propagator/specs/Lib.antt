@@ -5,3 +5,4 @@ pub mod Queue
 pub mod Due
 pub mod Cards
 pub mod Meant
+pub mod Boards

@@ -21,8 +21,8 @@ use crate::id::CardId;
 use crate::queue::{pop, put};
 use crate::rules::{bound, lits_of};
 use crate::told::Told;
-use sat_model::constraint::Constraint;
 use flag_set::work::WorkList;
+use sat_model::constraint::Constraint;
 use sat_model::literal::Lit;
 
 /// What a look at one cardinality finds.

@@ -20,4 +20,6 @@ mod id_list;
 mod queue;
 mod rules;
 mod tallies;
+#[cfg(test)]
+mod tests;
 pub mod told;
