@@ -9,7 +9,7 @@ use Rattle.sat_terms.proofs.Literals.{neg-neg}
 use Rattle.clause_store.specs.Stored.{Stored, slot, slot_lits, is_firm}
 use Rattle.clause_store.specs.Listing.{HasEachOnce, firm_at}
 use Rattle.firm_terms.specs.Firm.{firm}
-use Rattle.firm_terms.proofs.Counting.{place_of, count_ids, listed}
+use Rattle.firm_terms.proofs.Counting.{place_of, count_ids}
 use Rattle.equiv_subst.specs.Implications.{Arc, arcs, size, IsGraph, Gains, Adds, Shows, IsGraphOf}
 use Rattle.firm_terms.specs.Implying.{IsPairOf, Says}
 use Rattle.equiv_subst.proofs.Leading.{has_at_place}

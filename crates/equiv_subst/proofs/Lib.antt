@@ -2,7 +2,6 @@ pub mod Backward
 pub mod Finding
 pub mod Graphs
 pub mod Leading
-pub mod Leaving
 pub mod Occurring
 pub mod Pairing
 pub mod Passing

@@ -1,7 +1,7 @@
 -- What the pass keeps from round to round.
 use Rattle.firm_terms.proofs.Dividing.{div_below}
-use Rattle.std.proofs.Common.{◌≡◌, ◌≢◌, ℕ, suc, zero, ◌+◌, ◌-◌, ◌*◌, ◌/◌, ◌%◌, ◌<◌, ◌≤◌, Bool, true, false, not, eqb, List, [], ◌∷◌, length, get_or, Option, inl, inr, refl, sym, ap, ◌∙◌, subst, arith, count_by}
-use Rattle.std.proofs.lemmas.Bool.{false≢true, cases_Bool, cases_eq, cases_lt, false_from_ne_true, or_cases, eqb-true, eq-eqb, ne_eqb}
+use Rattle.std.proofs.Common.{◌≡◌, ◌≢◌, ℕ, suc, zero, ◌+◌, ◌-◌, ◌*◌, ◌<◌, ◌≤◌, Bool, true, false, not, eqb, List, [], ◌∷◌, length, get_or, Option, inl, inr, refl, sym, ap, ◌∙◌, subst, arith, count_by}
+use Rattle.std.proofs.lemmas.Bool.{false≢true, cases_Bool, cases_eq, false_from_ne_true, or_cases, eqb-true, ne_eqb}
 use Rattle.std.proofs.lemmas.List.{get_or_default}
 use Rattle.std.proofs.Math.Nat.{mul-le-mul_left}
 use Rattle.sat_terms.specs.Literal.{has, neg, var_of, pos_lit}
@@ -11,16 +11,16 @@ use Rattle.sat_terms.proofs.Truths.{lit_true-neg}
 use Rattle.clause_store.specs.Stored.{Stored, slot, slot_lits, is_firm, FirmTrue}
 use Rattle.rule_kernel.specs.State.{State}
 use Rattle.rule_kernel.specs.Rules.{AddsImplied}
-use Rattle.firm_terms.specs.Firm.{firm, stands, has_empty, vars, gone, Holds}
+use Rattle.firm_terms.specs.Firm.{firm, stands, vars, gone, Holds}
 use Rattle.pass_terms.specs.Ruled.{Ruled}
 use Rattle.pass_terms.specs.Ruled.Uses.{implied}
 use Rattle.pass_terms.specs.Ruled.Ruled.{none, more}
-use Rattle.firm_terms.proofs.Standing.{stands_of, stands_from, mentions_lit, lit_of, some_of, some_from}
-use Rattle.clause_store.specs.Listing.{HasEachOnce, firm_at, holds_at}
+use Rattle.firm_terms.proofs.Standing.{stands_of, stands_from, mentions_lit, lit_of, some_from}
+use Rattle.clause_store.specs.Listing.{HasEachOnce, holds_at}
 use Rattle.firm_terms.proofs.Counting.{count_firm, place_of, listed}
 use Rattle.pass_terms.proofs.Ruling.{ruled_trans, ruled_weaken, ruled_stands, ruled_gone}
 use Rattle.equiv_subst.proofs.Backward.{still_implied}
-use Rattle.equiv_subst.proofs.Leaving.{has-vars, gone_le, gone_less, gone_most}
+use Rattle.firm_terms.proofs.Leaving.{has_vars, gone_le, gone_less, gone_most}
 use Rattle.equiv_subst.specs.declared.pairs.Pair.{Pair}
 use Rattle.equiv_subst.specs.Implications.{Arc, size, IsGraphOf}
 use Rattle.firm_terms.specs.Implying.{Joined, Implication}
@@ -235,7 +235,7 @@ pub passing_none : (frozen : ℕ → Bool) (s : State) (limit : ℕ) → Passing
 passing_none frozen s limit = record { ruled = none; few = omega arith; spent = omega arith; rest = omega arith }
 
 covers_now : (frozen : ℕ → Bool) (s t : State) → Ruled frozen s t → Covers (vars (firm s.store)) t.store
-covers_now frozen s t r v h = has-vars (firm s.store) v (ruled_stands frozen s t v r h)
+covers_now frozen s t r v h = has_vars (firm s.store) v (ruled_stands frozen s t v r h)
 
 pub passing_more : (frozen : ℕ → Bool) (s t u : State) (b c limit : ℕ) → Passing frozen s t b limit → Ruled frozen t u → WentOn t.store u.store b c limit → Passing frozen s u c limit
 passing_more frozen s t u b c limit h ruled k =

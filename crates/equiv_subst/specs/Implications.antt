@@ -1,7 +1,7 @@
 -- Implications between literals, and the literals that lead to one another.
-use Rattle.std.specs.Prelude.{◌≡◌, ◌≢◌, ℕ, ◌+◌, ◌*◌, ◌<◌, ◌≤◌, ◌⊎◌, Bool, true, false, List, [], ◌∷◌, length, Option, slice_index_or}
-use Rattle.sat_terms.specs.Literal.{has, neg, var_of, pos_lit, IsLiteral}
-use Rattle.clause_store.specs.Stored.{Stored, slot, slot_lits, is_firm}
+use Rattle.std.specs.Prelude.{◌≡◌, ◌≢◌, ℕ, ◌+◌, ◌*◌, ◌<◌, ◌≤◌, ◌⊎◌, Bool, true, List, [], ◌∷◌, length, Option, slice_index_or}
+use Rattle.sat_terms.specs.Literal.{has, var_of, IsLiteral}
+use Rattle.clause_store.specs.Stored.{Stored}
 use Rattle.firm_terms.specs.Firm.{firm}
 use Rattle.firm_terms.specs.Implying.{Joined, IsPairOf, Says, Implication}
 

@@ -2,6 +2,7 @@ pub mod Changing
 pub mod Counting
 pub mod Dividing
 pub mod Emptying
+pub mod Leaving
 pub mod Resolving
 pub mod Signing
 pub mod Standing

@@ -1,19 +1,18 @@
 -- Laws of lists of rules.
-use Rattle.std.proofs.Common.{◌≡◌, ◌≢◌, ℕ, ◌+◌, Bool, true, false, not, eqb, ◌||◌, List, [], ◌∷◌, ◌++◌, Option, Some, None, ◌⊎◌, inl, inr, refl, sym, ap, ◌∙◌, subst, arith, min}
-use Rattle.std.specs.List.{list_any}
+use Rattle.std.proofs.Common.{◌≡◌, ℕ, ◌+◌, Bool, true, false, eqb, ◌||◌, List, [], ◌∷◌, ◌++◌, Option, Some, None, ◌⊎◌, inl, inr, refl, sym, ap, ◌∙◌, subst, arith, min}
 use Rattle.std.proofs.lemmas.Bool.{cases_eq, false≢true, or_cases, or_left, or_right, false_from_ne_true, eqb-true}
 use Rattle.std.proofs.lemmas.List.{append-nil, append_assoc}
 use Rattle.sat_terms.specs.Limits.{max_number}
-use Rattle.sat_terms.specs.Literal.{has, var_of}
+use Rattle.sat_terms.specs.Literal.{var_of}
 use Rattle.sat_terms.specs.Truth.{Assignment}
-use Rattle.redundancy.specs.Redundancy.{Entry, StackTrue}
+use Rattle.redundancy.specs.Redundancy.{Entry}
 use Rattle.redundancy.proofs.Chains.{StackTrue-append, StackTrue-left, StackTrue-right}
-use Rattle.clause_store.specs.Stored.{Stored, keeps_firm, slot, slot_lits, is_firm, is_redundant, SlotTrue, FirmTrue, OthersTrue, Fills, Frees}
+use Rattle.clause_store.specs.Stored.{Stored, slot, slot_lits, is_firm, is_redundant, Fills, Frees}
 use Rattle.clause_store.proofs.Slots.{FirmTrue-from, OthersTrue-from, FirmTrue-filled, FirmTrue-before, FirmTrue-freed, OthersTrue-freed}
 use Rattle.rule_kernel.specs.State.{State}
-use Rattle.rule_kernel.specs.Rules.{firm_clause, Applies, AddImplied, DropImplied, Park, SameButMarks, counted}
+use Rattle.rule_kernel.specs.Rules.{firm_clause, Applies, Park}
 use Rattle.firm_terms.specs.Firm.{mentions, firm, stands}
-use Rattle.pass_terms.specs.Ruled.{always, IsKnown, Uses, Ruled, goes, removals_of, Models, stacked, stands_in, IsSingle, AreSingle, SameRedundant, Simplified, PassesSimplify}
+use Rattle.pass_terms.specs.Ruled.{always, Uses, Ruled, goes, removals_of, Models, stacked, stands_in, IsSingle, AreSingle, SameRedundant, PassesSimplify}
 use Rattle.pass_terms.specs.Ruled.Uses.{implied, dropped, parked, unmarked}
 use Rattle.pass_terms.specs.Ruled.Ruled.{none, more}
 use Rattle.firm_terms.proofs.Standing.{stands_from, stands_filled, stands_freed}

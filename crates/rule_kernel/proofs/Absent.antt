@@ -1,8 +1,8 @@
 -- A literal that stands in no firm clause.
-use Rattle.std.proofs.Common.{◌≡◌, ℕ, suc, zero, ◌+◌, Bool, true, false, ◌&&◌, List, [], ◌∷◌, length, Option, Some, None, inl, inr, refl, sym, ◌∙◌, arith}
+use Rattle.std.proofs.Common.{◌≡◌, ℕ, suc, false, List, [], ◌∷◌, length, Option, Some, None, inl, inr, refl, sym, ◌∙◌, arith}
 use Rattle.std.proofs.lemmas.Bool.{cases_Bool, false≢true}
 use Rattle.sat_terms.specs.Literal.{has, pos_lit, neg_lit}
-use Rattle.clause_store.specs.Stored.{Stored, keeps_firm, slot, slot_lits}
+use Rattle.clause_store.specs.Stored.{Stored, keeps_firm}
 use Rattle.clause_store.specs.Listing.{HasEachOnce, holds_at}
 use Rattle.firm_terms.specs.Firm.{firm}
 use Rattle.firm_terms.specs.Resolving.{holding, candidate, BlocksNone}

@@ -1,23 +1,23 @@
 -- What a firm clause does to another one.
-use Rattle.std.proofs.Common.{◌≡◌, ◌≢◌, ℕ, ◌<◌, Bool, true, not, eqb, ◌&&◌, List, length, get_or, Option, Some, None, inl, inr, refl, sym, ap, ◌∙◌, subst, arith}
+use Rattle.std.proofs.Common.{◌≡◌, ◌≢◌, ℕ, ◌<◌, Bool, true, not, eqb, ◌&&◌, List, length, get_or, Option, Some, inl, inr, refl, sym, ap, ◌∙◌, subst, arith}
 use Rattle.std.specs.List.{remove}
 use Rattle.std.proofs.lemmas.Bool.{false≢true, cases_eq}
 use Rattle.std.proofs.lemmas.List.Edits.{length-remove}
-use Rattle.sat_terms.specs.Literal.{has, neg, var_of}
+use Rattle.sat_terms.specs.Literal.{has, neg}
 use Rattle.sat_terms.specs.Normal.{IsNormal}
-use Rattle.sat_terms.specs.Truth.{clause_true, lit_true, Implies}
+use Rattle.sat_terms.specs.Truth.{lit_true, Implies}
 use Rattle.sat_terms.proofs.Literals.{var_of-neg}
 use Rattle.sat_terms.proofs.Truths.{clause_true-from, clause_true-some, lit_true-neg}
-use Rattle.clause_store.specs.Stored.{Stored, slot, slot_lits, is_firm, SlotTrue, FirmTrue, OthersTrue, Fills, Frees}
-use Rattle.firm_terms.specs.Firm.{firm, stands, firm_size}
+use Rattle.clause_store.specs.Stored.{Stored, slot, slot_lits, is_firm, FirmTrue, OthersTrue}
+use Rattle.firm_terms.specs.Firm.{firm_size}
 use Rattle.firm_terms.specs.Subsuming.{IsWithin, Resolves, IsFree}
-use Rattle.firm_terms.proofs.Standing.{stands_from, mentions_lit, lit_of}
 use Rattle.firm_terms.proofs.Counting.{one_if, count_firm, count_filled, count_freed, count_two}
 use Rattle.firm_terms.proofs.Summing.{sum_filled, sum_freed, firm_size_is}
 use Rattle.rule_kernel.specs.State.{State}
 use Rattle.rule_kernel.specs.Rules.{firm_clause, AddsImplied, DropsImplied}
-use Rattle.pass_terms.specs.Ruled.{IsKnown, Ruled, always}
-use Rattle.pass_terms.specs.Ruled.Uses.{implied, dropped}
+use Rattle.pass_terms.specs.Ruled.{Ruled, always}
+use Rattle.pass_terms.specs.Ruled.Uses.{dropped}
+use Rattle.pass_terms.proofs.Shortening.{id_apart, slot_next}
 use Rattle.pass_terms.specs.Ruled.Ruled.{none, more}
 use Rattle.subsume_pass.specs.declared.change.Change.TheVariants.{Kept}
 use Rattle.subsume_pass.specs.Changing.{Cut, Drops, Changes}
@@ -45,37 +45,8 @@ implied_cut s by id at firm' there in' h f all =
       | inr ne ↦ (let m = h.rest r.0 r.1 ne in clause_true-from f (remove d at) r.0 (has_removed d at r.0 in' m.0 m.1) r.2)
     ]
 
--- the clause that came
-pub firm_none : (x : Option Stored) → is_firm x ≡ true → x ≡ None → ⊥
-firm_none x h e = false≢true (sym (ap is_firm e) ∙ h)
-
-id_apart : (s m : List (Option Stored)) (id next : ℕ) (new : List ℕ) → is_firm (slot s id) ≡ true → Fills s m next (firm_clause new) → id ≢ next
-id_apart s m id next new firm' fills z = firm_none (slot s id) firm' (ap (slot s) z ∙ fills.free)
-
-slot_next : (s m t : List (Option Stored)) (id next : ℕ) (new : List ℕ) → is_firm (slot s id) ≡ true → Fills s m next (firm_clause new) → Frees m t id → slot t next ≡ Some (firm_clause new)
-slot_next s m t id next new firm' fills frees = frees.others next (λ z. id_apart s m id next new firm' fills (sym z)) ∙ fills.filled
-
--- the longer clause may go
-pub drops_longer : (s m : List (Option Stored)) (id next : ℕ) (new : List ℕ) → is_firm (slot s id) ≡ true → ((l : ℕ) → has new l ≡ true → has (slot_lits (slot s id)) l ≡ true) → Fills s m next (firm_clause new) → Implies (OthersTrue m id) (slot_lits (slot m id))
-drops_longer s m id next new firm' sub fills f h =
-    let apart = id_apart s m id next new firm' fills in
-    let there : clause_true f new ≡ true = (subst (λ (z : Option Stored). SlotTrue f z) fills.filled (h next (λ e. apart (sym e)))) refl in
-    let r = clause_true-some f new there in
-    subst (λ (z : List ℕ). clause_true f z ≡ true) (ap slot_lits (sym (fills.others id apart))) (clause_true-from f (slot_lits (slot s id)) r.0 (sub r.0 r.1) r.2)
-
-pub known_new : (s : State) (id : ℕ) (new : List ℕ) → is_firm (slot s.store id) ≡ true → ((l : ℕ) → has new l ≡ true → has (slot_lits (slot s.store id)) l ≡ true) → IsKnown s new
-known_new s id new firm' sub v h =
-    let l = lit_of new v h in
-    subst (λ (z : ℕ). stands (firm s.store) z ≡ true) l.2 (stands_from s.store (var_of l.0) id firm' (mentions_lit (slot_lits (slot s.store id)) l.0 (sub l.0 l.1)))
-
-pub ruled_next : (s m t : State) (id next : ℕ) (new : List ℕ) → IsKnown s new → AddsImplied s m new next → DropsImplied m t id → Ruled always s t
-ruled_next s m t id next new known a d = more m t (more s m none (implied new next known a)) (dropped id d)
-
 pub ruled_drop : (s t : State) (id : ℕ) → DropsImplied s t id → Ruled always s t
 ruled_drop s t id d = more s t none (dropped id d)
-
-pub ruled_same : (s t : State) → t ≡ s → Ruled always s t
-ruled_same s t e = rw e none
 
 -- a clause that is free of another one is free of what is within that
 pub free_shrunk : (c d new : List ℕ) → ((l : ℕ) → has new l ≡ true → has d l ≡ true) → IsFree c d → IsFree c new

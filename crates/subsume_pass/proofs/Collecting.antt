@@ -15,7 +15,8 @@ use Rattle.firm_terms.proofs.Signing.{tells}
 use Rattle.firm_terms.proofs.Counting.{one_if, tally_le, length_times, slot_within, count_tally, count_firm, place_of, listed}
 use Rattle.firm_terms.specs.Subsuming.{IsFree}
 use Rattle.subsume_pass.specs.Choosing.{AreFree, Collects, AreCandidates}
-use Rattle.subsume_pass.proofs.Clauses.{at_place, place, vars_rise, not_both}
+use Rattle.sat_terms.proofs.Members.{has_item, has_place}
+use Rattle.subsume_pass.proofs.Clauses.{vars_rise, not_both}
 use Rattle.subsume_pass.proofs.Comparing.{free_missing}
 
 -- a list that has no id twice, and firm ones alone, is no longer than the firm clauses are many
@@ -57,7 +58,7 @@ no_longer c d n m h (suc i) lt =
 short_of : (c d : List ℕ) → IsNormal c → IsNormal d → ((l : ℕ) → has c l ≡ true → (x : ℕ) × (has d x ≡ true) × (var_of x ≡ var_of l)) → length d < length c → ⊥
 short_of c d n m h lt =
     let i = length c - 1 in
-    let r = no_longer c d n m (λ k in'. (let x = h (get_or c k 0) (at_place c k in') in let p = place d x.0 x.1 in (p.0, p.1, ap var_of p.2 ∙ x.2))) i (omega arith) in
+    let r = no_longer c d n m (λ k in'. (let x = h (get_or c k 0) (has_item c k 0 in') in let p = has_place d x.0 0 x.1 in (p.0, p.1, ap var_of p.2 ∙ x.2))) i (omega arith) in
     let a = r.1 in
     let b = r.2 in
     omega arith

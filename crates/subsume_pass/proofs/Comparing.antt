@@ -6,7 +6,8 @@ use Rattle.sat_terms.specs.Literal.{has, neg, var_of}
 use Rattle.sat_terms.specs.Normal.{IsNormal}
 use Rattle.sat_terms.proofs.Literals.{neg-neg, var_of-neg}
 use Rattle.firm_terms.specs.Subsuming.{IsWithin, Resolves, IsFree}
-use Rattle.subsume_pass.proofs.Clauses.{at_place, place, vars_rise, not_both}
+use Rattle.sat_terms.proofs.Members.{has_item, has_place}
+use Rattle.subsume_pass.proofs.Clauses.{vars_rise, not_both}
 
 -- a literal whose variable stands not in d
 pub free_missing : (c d : List ℕ) (l : ℕ) → has c l ≡ true → has d l ≡ false → has d (neg l) ≡ false → IsFree c d
@@ -78,7 +79,7 @@ passed_more c d i from at lit flipped n in' read h p k m lt le in'' =
 pub no_var : (d : List ℕ) (at lit x : ℕ) → IsNormal d → var_of x ≡ var_of lit → ((k : ℕ) → k < at → var_of (get_or d k 0) < var_of lit) → (at < length d → var_of lit ≤ var_of (get_or d at 0)) → (at < length d → get_or d at 0 ≢ x) → has d x ≡ false
 no_var d at lit x n v below above ne =
     false_from_ne_true (has d x) (λ h.
-    let p = place d x h in
+    let p = has_place d x 0 h in
     let in' = p.1 in
     let e : var_of (get_or d p.0 0) ≡ var_of lit = ap var_of p.2 ∙ v in
     elim (cases_lt p.0 at) [
@@ -100,7 +101,7 @@ pub comparing_same : (c d : List ℕ) (i from at lit : ℕ) (flipped : Option �
 comparing_same c d i from at lit flipped n in' read h le p lt is = record {
   within = le;
   passed = λ k m a b e. passed_more c d i from at lit flipped n in' read h p k m a (omega arith) e;
-  flips = same_flips c d i flipped (subst (λ (z : ℕ). has d z ≡ true) (is ∙ read ∙ get_or_default c i lit 0 in') (at_place d at lt)) h.flips;
+  flips = same_flips c d i flipped (subst (λ (z : ℕ). has d z ≡ true) (is ∙ read ∙ get_or_default c i lit 0 in') (has_item d at 0 lt)) h.flips;
 }
 
 -- the first flip
@@ -115,7 +116,7 @@ comparing_flip c d i from at lit n in' read h le p lt is = record {
 -- what stands in d by its negation stands not itself
 not_there : (d : List ℕ) (p x : ℕ) → IsNormal d → p < length d → get_or d p 0 ≡ neg x → has d x ≡ false
 not_there d p x n lt is =
-    false_from_ne_true (has d x) (λ h. not_both d x n h (subst (λ (z : ℕ). has d z ≡ true) is (at_place d p lt)))
+    false_from_ne_true (has d x) (λ h. not_both d x n h (subst (λ (z : ℕ). has d z ≡ true) is (has_item d p 0 lt)))
 
 -- a second flip
 pub free_flips : (c d : List ℕ) (i from at lit p : ℕ) → IsNormal c → IsNormal d → i < length c → lit ≡ get_or c i lit → Comparing c d i from (Some p) → at < length d → get_or d at 0 ≡ neg lit → IsFree c d
@@ -125,7 +126,7 @@ free_flips c d i from at lit p n m in' read h lt is =
     let e : lit ≡ get_or c i 0 = read ∙ get_or_default c i lit 0 in' in
     free_two c d (get_or c f.0 0) lit
     (λ z. absurd (let b = n.rising f.0 i 0 q in' in let g : get_or c f.0 0 ≡ get_or c i 0 = z ∙ e in omega arith))
-    (at_place c f.0 (omega arith)) (subst (λ (z : ℕ). has c z ≡ true) (sym e) (at_place c i in')) (not_there d p (get_or c f.0 0) m f.2 f.3) (not_there d at lit m lt is)
+    (has_item c f.0 0 (omega arith)) (subst (λ (z : ℕ). has c z ≡ true) (sym e) (has_item c i 0 in')) (not_there d p (get_or c f.0 0) m f.2 f.3) (not_there d at lit m lt is)
 
 -- a literal whose variable is not there
 pub free_neither : (c d : List ℕ) (i from at lit : ℕ) (flipped : Option ℕ) → IsNormal c → IsNormal d → i < length c → lit ≡ get_or c i lit → Comparing c d i from flipped → ((k : ℕ) → from ≤ k → k < at → var_of (get_or d k 0) < var_of lit)
@@ -133,24 +134,24 @@ pub free_neither : (c d : List ℕ) (i from at lit : ℕ) (flipped : Option ℕ)
 free_neither c d i from at lit flipped n m in' read h p above ne =
     let e : lit ≡ get_or c i 0 = read ∙ get_or_default c i lit 0 in' in
     let below : (k : ℕ) → k < at → var_of (get_or d k 0) < var_of lit = λ k lt. subst (λ (z : ℕ). var_of (get_or d k 0) < var_of z) (sym e) (passed_more c d i from at lit flipped n in' read h p k i lt (omega arith) in') in
-    free_missing c d lit (subst (λ (z : ℕ). has c z ≡ true) (sym e) (at_place c i in')) (no_var d at lit lit m refl below above (λ l. (ne l).0)) (no_var d at lit (neg lit) m (var_of-neg lit) below above (λ l. (ne l).1))
+    free_missing c d lit (subst (λ (z : ℕ). has c z ≡ true) (sym e) (has_item c i 0 in')) (no_var d at lit lit m refl below above (λ l. (ne l).0)) (no_var d at lit (neg lit) m (var_of-neg lit) below above (λ l. (ne l).1))
 
 -- all literals were met
 pub all_within : (c d : List ℕ) (i at : ℕ) → length c ≤ i → Comparing c d i at None → IsWithin c d
-all_within c d i at le h l x = let p = place c l x in let a = p.1 in subst (λ (z : ℕ). has d z ≡ true) p.2 (h.flips p.0 (omega arith))
+all_within c d i at le h l x = let p = has_place c l 0 x in let a = p.1 in subst (λ (z : ℕ). has d z ≡ true) p.2 (h.flips p.0 (omega arith))
 
 pub all_but_one : (c d : List ℕ) (i at p : ℕ) → IsNormal c → IsNormal d → length c ≤ i → Comparing c d i at (Some p) → i ≤ length c → (p < length d) × Resolves c d (get_or d p 0)
 all_but_one c d i at p n m le h ge =
     let f = h.flips in
     let q = f.1 in
     let opp : neg (get_or d p 0) ≡ get_or c f.0 0 = ap neg f.3 ∙ neg-neg (get_or c f.0 0) in
-    let there = at_place c f.0 (omega arith) in (
+    let there = has_item c f.0 0 (omega arith) in (
       f.2,
       record {
-        here = at_place d p f.2;
+        here = has_item d p 0 f.2;
         opposite = subst (λ (z : ℕ). has c z ≡ true) (sym opp) there;
         rest = λ x hx ne.
-            let k = place c x hx in
+            let k = has_place c x 0 hx in
             let lt = k.1 in (
               subst (λ (z : ℕ). has d z ≡ true) k.2 (f.4 k.0 (omega arith) (λ z. ne (sym k.2 ∙ ap (λ (y : ℕ). get_or c y 0) z ∙ sym opp))),
               λ z. not_both c (get_or c f.0 0) n there (subst (λ (y : ℕ). has c y ≡ true) (z ∙ f.3) hx),

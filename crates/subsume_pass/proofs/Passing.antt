@@ -1,5 +1,5 @@
 -- What holds between two turns.
-use Rattle.pass_terms.proofs.Ruling.{for_any, ruled_trans, ruled_weaken}
+use Rattle.pass_terms.proofs.Ruling.{for_any, ruled_trans}
 use Rattle.std.proofs.Common.{◌≡◌, ℕ, suc, zero, ◌+◌, ◌-◌, ◌*◌, ◌/◌, ◌<◌, ◌≤◌, Bool, true, List, [], length, inl, inr, refl, sym, ap, ◌∙◌, arith, leb}
 use Rattle.std.proofs.Math.Nat.{mul-le-mul_left, mul-le-mul_right, mul-add, mul-one, mul-div-le}
 use Rattle.std.proofs.lemmas.Bool.{leb-true, false≢true, cases_lt}

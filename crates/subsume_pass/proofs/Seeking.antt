@@ -12,9 +12,9 @@ use Rattle.pass_terms.specs.Ruled.Ruled.{none}
 use Rattle.pass_terms.proofs.Ruling.{ruled_trans}
 use Rattle.firm_terms.specs.Firm.{firm}
 use Rattle.subsume_pass.specs.Choosing.{AreSources}
-use Rattle.subsume_pass.specs.Changing.{size, Cut, Drops}
+use Rattle.subsume_pass.specs.Changing.{Cut, Drops}
 use Rattle.subsume_pass.specs.Trying.{waits, different, StaysFree, GoesOut, GetsCut, Halts, Settles, Advances, Stops}
-use Rattle.subsume_pass.proofs.Clauses.{place}
+use Rattle.sat_terms.proofs.Members.{has_place}
 use Rattle.subsume_pass.proofs.Trying.{falls_same}
 use Rattle.subsume_pass.proofs.Waiting.{different_less, different_swap, different_some}
 
@@ -69,7 +69,7 @@ seek_free s t id ids k a b limit past upto h =
     let sp = h.spent in
     record {
       same = h.same;
-      free = λ i f ne y. let p = place ids i y in let lt = p.1 in subst (λ (z : ℕ). IsFree (slot_lits (slot s.store z)) (slot_lits (slot s.store id))) p.2 (h.free p.0 (omega arith) (subst (λ (z : ℕ). is_firm (slot s.store z) ≡ true) (sym p.2) f) (λ z. ne (z ∙ p.2)));
+      free = λ i f ne y. let p = has_place ids i 0 y in let lt = p.1 in subst (λ (z : ℕ). IsFree (slot_lits (slot s.store z)) (slot_lits (slot s.store id))) p.2 (h.free p.0 (omega arith) (subst (λ (z : ℕ). is_firm (slot s.store z) ≡ true) (sym p.2) f) (λ z. ne (z ∙ p.2)));
       spent = omega arith;
       rest = h.rest;
     }

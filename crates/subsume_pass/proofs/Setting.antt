@@ -1,12 +1,8 @@
 -- Laws of empty clauses, and of the ids that wait.
-use Rattle.std.proofs.Common.{◌≡◌, ℕ, suc, zero, ◌<◌, ◌≤◌, Bool, true, false, eqb, List, [], ◌∷◌, length, get_or, Option, Some, None, inl, inr, sym, ap, ◌∙◌, subst, arith}
-use Rattle.std.specs.List.{list_any}
-use Rattle.std.proofs.lemmas.Bool.{false≢true, cases_Bool, cases_lt, or_cases, or_left, or_right, false_from_ne_true, eqb-true, eq-eqb}
-use Rattle.std.proofs.lemmas.List.{get_or_default}
-use Rattle.clause_store.specs.Stored.{Stored, keeps_firm, slot, slot_lits, is_firm}
-use Rattle.clause_store.specs.Listing.{HasEachOnce, firm_at}
+use Rattle.std.proofs.Common.{◌≡◌, ℕ, ◌<◌, true, false, eqb, List, length, Option, inl, inr, sym, ◌∙◌, arith}
+use Rattle.std.proofs.lemmas.Bool.{false≢true, cases_lt, eq-eqb}
+use Rattle.clause_store.specs.Stored.{Stored, slot, slot_lits, is_firm}
 use Rattle.firm_terms.specs.Firm.{firm, has_empty}
-use Rattle.firm_terms.proofs.Counting.{place_of, listed}
 use Rattle.firm_terms.proofs.Standing.{some_from}
 
 pub some_lits : (s : List (Option Stored)) (id : ℕ) → has_empty (firm s) ≡ false → is_firm (slot s id) ≡ true → 0 < length (slot_lits (slot s id))

@@ -8,7 +8,7 @@ use Rattle.sat_terms.proofs.Literals.{neg-neg, neg-other, var_of-neg}
 use Rattle.clause_store.specs.Stored.{Stored, slot, slot_lits, is_firm}
 use Rattle.clause_store.specs.Listing.{times, HasEachOnce, holds_at}
 use Rattle.subsume_pass.specs.Choosing.{AreFree, begins, Gathers, AreSources}
-use Rattle.subsume_pass.proofs.Clauses.{place}
+use Rattle.sat_terms.proofs.Members.{has_place}
 use Rattle.subsume_pass.proofs.Comparing.{free_missing}
 use Rattle.firm_terms.proofs.Counting.{one_if, place_of}
 use Rattle.subsume_pass.proofs.Collecting.{at_most_once, times_push, times_take, at_read, before_push, holds}
@@ -162,11 +162,11 @@ sources_of s id c k ids is past h = record {
   begin_of : (i : ℕ) → is_firm (slot s i) ≡ true → has ids i ≡ false → (l : ℕ) × (begins (slot_lits (slot s i)) l ≡ true) → AreFree s i id
   begin_of i f n l =
       elim (cases_Bool (has c l.0)) [
-        | inl y ↦ (let p = place c l.0 y in let lt = p.1 in h.upto p.0 i (omega arith) f (inl (subst (λ (w : ℕ). begins (slot_lits (slot s i)) w ≡ true) (sym p.2) l.1)) n)
+        | inl y ↦ (let p = has_place c l.0 0 y in let lt = p.1 in h.upto p.0 i (omega arith) f (inl (subst (λ (w : ℕ). begins (slot_lits (slot s i)) w ≡ true) (sym p.2) l.1)) n)
         | inr y ↦
             elim (cases_Bool (has c (neg l.0))) [
               | inl z ↦
-                  (let p = place c (neg l.0) z in
+                  (let p = has_place c (neg l.0) 0 z in
                   let lt = p.1 in
                   let e : neg (get_or c p.0 0) ≡ l.0 = ap neg p.2 ∙ neg-neg l.0 in
                   h.upto p.0 i (omega arith) f (inr (subst (λ (w : ℕ). begins (slot_lits (slot s i)) w ≡ true) (sym e) l.1)) n)

@@ -1,6 +1,6 @@
 -- What holds while a clause is tried on others, and where that ends.
 use Rattle.std.proofs.Common.{◌≡◌, ◌≢◌, ℕ, suc, zero, ◌+◌, ◌<◌, ◌≤◌, Bool, true, false, not, eqb, ◌&&◌, ◌||◌, List, [], ◌∷◌, length, get_or, Option, None, inl, inr, ◌⊎◌, refl, sym, ap, ◌∙◌, subst, arith}
-use Rattle.std.proofs.lemmas.Bool.{false≢true, cases_Bool, cases_eq, cases_lt, and_parts, or_cases, eqb-true, eq-eqb, ne_eqb, false_from_ne_true}
+use Rattle.std.proofs.lemmas.Bool.{false≢true, cases_Bool, cases_eq, cases_lt, and_parts, eq-eqb, ne_eqb, false_from_ne_true}
 use Rattle.std.proofs.lemmas.List.{get_or_default}
 use Rattle.sat_terms.specs.Literal.{has}
 use Rattle.clause_store.specs.Stored.{Stored, slot, slot_lits, is_firm}
@@ -17,8 +17,9 @@ use Rattle.subsume_pass.specs.declared.turn.Turn.TheVariants.{Done, Changed, Ref
 use Rattle.subsume_pass.specs.Choosing.{AreCandidates}
 use Rattle.subsume_pass.specs.Changing.{size, Falls, Cut, Drops}
 use Rattle.subsume_pass.specs.Trying.{different, Keeps, Met, Leaves, Alters, Tested, TestedIdly, TestedWell, CameFull, Refutes, Turned, Settles, Advances, Stops}
-use Rattle.subsume_pass.proofs.Clauses.{place}
-use Rattle.subsume_pass.proofs.Changing.{free_shrunk, free_slots, firm_none}
+use Rattle.sat_terms.proofs.Members.{has_place}
+use Rattle.subsume_pass.proofs.Changing.{free_shrunk, free_slots}
+use Rattle.pass_terms.proofs.Shortening.{firm_none}
 use Rattle.subsume_pass.proofs.Waiting.{different_less, different_some, different_firm, nil_where_none}
 
 -- an id stands at a place from i on
@@ -186,7 +187,7 @@ pub testing_none : (s : State) (by : ℕ) (ids : List ℕ) (a limit : ℕ) → s
 testing_none s by ids a limit nil h le = record {
   ruled = none;
   keeps = keeps_none s s by nil refl;
-  free = λ j ne f. elim (cases_Bool (has ids j)) [ inl y ↦ (let p = place ids j y in inr (p.0, omega arith, p.1, p.2)) | inr n ↦ inl (h.whole j f n) ];
+  free = λ j ne f. elim (cases_Bool (has ids j)) [ inl y ↦ (let p = has_place ids j 0 y in inr (p.0, omega arith, p.1, p.2)) | inr n ↦ inl (h.whole j f n) ];
   spent = omega arith;
   rest = le;
 }

@@ -1,5 +1,5 @@
 -- What a turn does to a kernel: a clause that waits is tried on others, or others on it.
-use Rattle.std.specs.Prelude.{◌≡◌, ◌≢◌, ◌⊎◌, ℕ, ◌+◌, ◌*◌, ◌<◌, ◌≤◌, true, List, [], ◌∷◌, length, Option, if◌then◌else◌}
+use Rattle.std.specs.Prelude.{◌≡◌, ◌≢◌, ◌⊎◌, ℕ, ◌+◌, ◌<◌, ◌≤◌, true, List, [], ◌∷◌, length, Option, if◌then◌else◌}
 use Rattle.sat_terms.specs.Literal.{has}
 use Rattle.clause_store.specs.Stored.{Stored, slot, slot_lits, is_firm}
 use Rattle.firm_terms.specs.Firm.{firm, has_empty}

@@ -1,12 +1,12 @@
 -- What holds between the turns of the pass, and how its steps are counted.
+use Rattle.firm_terms.proofs.Leaving.{has_vars, count_by_le, count_by_less}
 use Rattle.firm_terms.proofs.Dividing.{div_below}
-use Rattle.std.proofs.Common.{◌≡◌, ◌≢◌, ℕ, suc, zero, ◌+◌, ◌-◌, ◌*◌, ◌/◌, ◌%◌, ◌<◌, ◌≤◌, Bool, true, false, not, ◌&&◌, eqb, cond, List, [], ◌∷◌, length, ◌⊎◌, inl, inr, refl, sym, ap, ◌∙◌, subst, arith, max, count_by}
-use Rattle.std.proofs.lemmas.Bool.{cases_Bool, cases_eq, cases_lt, false≢true, false_from_ne_true, or_cases, or_left, or_right, and_parts, and_from, eq-eqb, ne_eqb, eqb-true, not-true, not_from_false}
-use Rattle.std.proofs.lemmas.List.Sums.{sum_by-cons, count_by-le-length}
+use Rattle.std.proofs.Common.{◌≡◌, ◌≢◌, ℕ, suc, zero, ◌+◌, ◌-◌, ◌*◌, ◌<◌, ◌≤◌, Bool, true, false, not, ◌&&◌, eqb, List, [], length, ◌⊎◌, inl, inr, refl, sym, ap, ◌∙◌, subst, arith, max, count_by}
+use Rattle.std.proofs.lemmas.Bool.{cases_Bool, cases_eq, false≢true, and_parts, and_from, eq-eqb, ne_eqb, not-true, not_from_false}
+use Rattle.std.proofs.lemmas.List.Sums.{count_by-le-length}
 use Rattle.std.proofs.Math.Nat.{mul-le-mul_left}
-use Rattle.sat_terms.specs.Literal.{has, var_of}
-use Rattle.firm_terms.specs.Firm.{mentions, firm, stands, with_var, with_vars, vars}
-use Rattle.firm_terms.proofs.Standing.{lit_of}
+use Rattle.sat_terms.specs.Literal.{has}
+use Rattle.firm_terms.specs.Firm.{firm, stands, vars}
 use Rattle.rule_kernel.specs.State.{State, IsPromised}
 use Rattle.rule_kernel.specs.Rules.{SameButMarks}
 use Rattle.pass_terms.specs.Ruled.{Ruled}
@@ -39,67 +39,8 @@ module _ (s t u : State) (v a b pairs limit : ℕ) (e : b ≡ a + max pairs 1) (
     none_and true = refl
     none_and false = refl
 
--- the variables of clauses
-has_with_var : (v u : ℕ) (vs : List ℕ) → (v ≡ u) ⊎ (has vs u ≡ true) → has (with_var v vs) u ≡ true
-has_with_var v u vs (inl e) =
-    elim (cases_Bool (has vs v)) [ inl a ↦ rw a (rw e at a) | inr a ↦ rw a (or_left (eqb v u) (has vs u) (eq-eqb v u e)) ]
-has_with_var v u vs (inr h) =
-    elim (cases_Bool (has vs v)) [ inl a ↦ rw a h | inr a ↦ rw a (or_right (eqb v u) (has vs u) h) ]
-
-has_with_old : (c : List ℕ) (vs : List ℕ) (u : ℕ) → has vs u ≡ true → has (with_vars c vs) u ≡ true
-has_with_old [] vs u h = h
-has_with_old (l ∷ c) vs u h = has_with_var (var_of l) u (with_vars c vs) (inr (has_with_old c vs u h))
-
-has_with : (c : List ℕ) (vs : List ℕ) (l : ℕ) → has c l ≡ true → has (with_vars c vs) (var_of l) ≡ true
-has_with [] vs l h = absurd (false≢true h)
-has_with (x ∷ c) vs l h =
-    has_with_var (var_of x) (var_of l) (with_vars c vs)
-    (elim (or_cases (eqb x l) (has c l) h) [ inl a ↦ inl (ap var_of (eqb-true x l a)) | inr b ↦ inr (has_with c vs l b) ])
-
-pub has_vars : (cs : List (List ℕ)) (v : ℕ) → stands cs v ≡ true → has (vars cs) v ≡ true
-has_vars [] v h = absurd (false≢true h)
-has_vars (c ∷ cs) v h =
-    elim (or_cases (mentions c v) (stands cs v) h) [
-      | inl a ↦ (let l = lit_of c v a in subst (λ (z : ℕ). has (with_vars c (vars cs)) z ≡ true) l.2 (has_with c (vars cs) l.0 l.1))
-      | inr b ↦ has_with_old c (vars cs) v (has_vars cs v b)
-    ]
-
--- counts
-abbrev one : Bool → ℕ
-one b = cond b 1 0
-
-count_le : (p q : ℕ → Bool) (xs : List ℕ) → ((x : ℕ) → p x ≡ true → q x ≡ true) → count_by p xs ≤ count_by q xs
-count_le p q [] h = omega arith
-count_le p q (x ∷ xs) h =
-    let a = sum_by-cons (λ y. cond (p y) 1 0) x xs in
-    let b = sum_by-cons (λ y. cond (q y) 1 0) x xs in
-    let r = count_le p q xs h in
-    elim (cases_Bool (p x)) [
-      | inl i ↦ (let j = h x i in let c : one (p x) ≡ 1 = rw i refl in let d : one (q x) ≡ 1 = rw j refl in omega (arith, a, b, c, d, r))
-      | inr i ↦ (let c : one (p x) ≡ 0 = rw i refl in omega (arith, a, b, c, r))
-    ]
-
-count_less : (p q : ℕ → Bool) (xs : List ℕ) (v : ℕ) → ((x : ℕ) → p x ≡ true → q x ≡ true) → has xs v ≡ true → p v ≡ false → q v ≡ true → count_by p xs + 1 ≤ count_by q xs
-count_less p q [] v h in' n y = absurd (false≢true in')
-count_less p q (x ∷ xs) v h in' n y =
-    let a = sum_by-cons (λ z. cond (p z) 1 0) x xs in
-    let b = sum_by-cons (λ z. cond (q z) 1 0) x xs in
-    elim (or_cases (eqb x v) (has xs v) in') [
-      | inl e ↦
-          (let c : one (p x) ≡ 0 = rw (eqb-true x v e, n) refl in
-          let d : one (q x) ≡ 1 = rw (eqb-true x v e, y) refl in
-          let r = count_le p q xs h in
-          omega (arith, a, b, c, d, r))
-      | inr e ↦
-          (let r = count_less p q xs v h e n y in
-          elim (cases_Bool (p x)) [
-            | inl i ↦ (let j = h x i in let c : one (p x) ≡ 1 = rw i refl in let d : one (q x) ≡ 1 = rw j refl in omega (arith, a, b, c, d, r))
-            | inr i ↦ (let c : one (p x) ≡ 0 = rw i refl in omega (arith, a, b, c, r))
-          ])
-    ]
-
 count_some : (p : ℕ → Bool) (xs : List ℕ) (v : ℕ) → has xs v ≡ true → p v ≡ true → 1 ≤ count_by p xs
-count_some p xs v in' y = let r = count_less (λ _. false) p xs v (λ x i. absurd (false≢true i)) in' refl y in omega (arith, r)
+count_some p xs v in' y = let r = count_by_less (λ _. false) p xs v (λ x i. absurd (false≢true i)) in' refl y in omega (arith, r)
 
 -- The steps that were counted, against the marks that are left and the variables that are gone: each mark may cost 400 yet, and each
 -- variable that goes may bring n of them.
@@ -167,7 +108,7 @@ pub passing_unmarked : (frozen : ℕ → Bool) (s t u : State) (queue queue' : L
 passing_unmarked frozen s t u queue queue' v steps limit p m quiet ch = record {
   ruled = ruled_turned frozen s t u p.ruled m.same;
   spent = rw m.same.store (within_fewer (length (vars (firm s.store))) (freed frozen (vars (firm s.store)) (firm t.store)) (count_by (has t.marked.vars) (vars (firm s.store))) (count_by (has u.marked.vars) (vars (firm s.store))) steps p.spent
-      (count_le (has u.marked.vars) (has t.marked.vars) (vars (firm s.store)) m.fewer));
+      (count_by_le (has u.marked.vars) (has t.marked.vars) (vars (firm s.store)) m.fewer));
   within = p.within;
   queued = ch.queued;
   idle = λ all. absurd (never_chosen frozen s u queue' v ch (still_idle frozen s t u queue steps limit p quiet) all);
@@ -203,7 +144,7 @@ module _ (frozen : ℕ → Bool) (s t u : State) (queue : List ℕ) (v a b limit
 
   one_more : Ruled frozen t u → stands (firm u.store) v ≡ false → freed frozen (vars (firm s.store)) (firm t.store) + 1 ≤ freed frozen (vars (firm s.store)) (firm u.store)
   one_more r h =
-      count_less (λ x. not (frozen x) && not (stands (firm t.store) x)) (λ x. not (frozen x) && not (stands (firm u.store) x)) (vars (firm s.store)) v (still_gone r) known
+      count_by_less (λ x. not (frozen x) && not (stands (firm t.store) x)) (λ x. not (frozen x) && not (stands (firm u.store) x)) (vars (firm s.store)) v (still_gone r) known
       (rw (ch.stands, ch.free) refl) (rw (h, ch.free) refl)
 
   spent_more : Ruled frozen t u → WentOn t u v a b limit → ((u.store ≡ t.store) × ((x : ℕ) → has u.marked.vars x ≡ true → has t.marked.vars x ≡ true)) ⊎ (stands (firm u.store) v ≡ false)
@@ -211,7 +152,7 @@ module _ (frozen : ℕ → Bool) (s t u : State) (queue : List ℕ) (v a b limit
   spent_more r w (inl k) =
       rw k.0
       (within_kept (length (vars (firm s.store))) (freed frozen (vars (firm s.store)) (firm t.store)) (count_by (has t.marked.vars) (vars (firm s.store))) (count_by (has u.marked.vars) (vars (firm s.store))) a b p.spent
-      (count_less (has u.marked.vars) (has t.marked.vars) (vars (firm s.store)) v k.1 known w.cleared ch.marked) w.few)
+      (count_by_less (has u.marked.vars) (has t.marked.vars) (vars (firm s.store)) v k.1 known w.cleared ch.marked) w.few)
   spent_more r w (inr h) =
       within_gone (length (vars (firm s.store))) (freed frozen (vars (firm s.store)) (firm t.store)) (freed frozen (vars (firm s.store)) (firm u.store)) (count_by (has t.marked.vars) (vars (firm s.store))) (count_by (has u.marked.vars) (vars (firm s.store))) a b p.spent
       one_left (count_by-le-length (has u.marked.vars) (vars (firm s.store))) (one_more r h) w.few

@@ -1,6 +1,6 @@
 -- Laws of clauses that are tried in turn, and once round.
 use Rattle.firm_terms.proofs.Dividing.{div_below}
-use Rattle.std.proofs.Common.{◌≡◌, ◌≢◌, ℕ, suc, zero, ◌+◌, ◌-◌, ◌*◌, ◌/◌, ◌%◌, ◌<◌, ◌≤◌, true, false, cond, eqb, List, length, length-set, get_or, take, drop, set, Option, Result, Ok, Err, IfOk, inl, inr, refl, sym, ap, ◌∙◌, subst, arith}
+use Rattle.std.proofs.Common.{◌≡◌, ◌≢◌, ℕ, suc, zero, ◌+◌, ◌-◌, ◌*◌, ◌<◌, ◌≤◌, true, false, cond, eqb, List, length, length-set, get_or, take, drop, set, Option, Result, Ok, Err, IfOk, inl, inr, refl, sym, ap, ◌∙◌, subst, arith}
 use Rattle.std.proofs.lemmas.Bool.{false≢true, cases_eq, cases_lt, eq-eqb, ne_eqb}
 use Rattle.std.proofs.lemmas.List.{get_or_default, get_or-drop, get_or-take, length-take-le, length-drop, take_all}
 use Rattle.std.proofs.lemmas.List.Sums.{sum_by-take-drop, sum_by-set, sum_by_more, sum_by_more_le, sum_by-take-le}
@@ -21,7 +21,6 @@ use Rattle.vivify_pass.specs.Trailing.{Ready}
 use Rattle.vivify_pass.specs.Turning.{StaysSame, Shortens, GetsShorter, ComesFull, AreFirm, literals, CalmAt, AllStay, OneShortens, RunsOut, Tried, ReachesLimit}
 use Rattle.firm_terms.proofs.Counting.{listed, place_of}
 use Rattle.firm_terms.proofs.Summing.{firm_size_is, sum_ids}
-use Rattle.vivify_pass.proofs.Forcing.{calm_whole}
 
 -- the id at a place
 at_id : (ids : List ℕ) (i id : ℕ) → i < length ids → id ≡ get_or ids i id → get_or ids i 0 ≡ id

@@ -1,13 +1,13 @@
 -- Laws of what unit propagation makes true.
-use Rattle.std.proofs.Common.{◌≡◌, ℕ, ◌+◌, ◌≤◌, true, false, not, eqb, List, [], ◌∷◌, ◌++◌, length, Option, inl, inr, refl, sym, ap, ◌∙◌, subst, arith}
+use Rattle.std.proofs.Common.{◌≡◌, ℕ, ◌+◌, ◌≤◌, true, false, not, eqb, List, [], ◌∷◌, ◌++◌, length, Option, inl, inr, refl, sym, ap, ◌∙◌, arith}
 use Rattle.std.proofs.lemmas.Bool.{false≢true, cases_Bool, cases_eq, or_cases, or_left, or_right, or_parts, eqb-true, eq-eqb}
 use Rattle.std.proofs.lemmas.List.{append-nil, append_assoc, length-append}
 use Rattle.sat_terms.specs.Literal.{has, neg}
 use Rattle.sat_terms.specs.Truth.{Assignment, lit_true, clause_true}
 use Rattle.sat_terms.proofs.Literals.{neg-neg}
 use Rattle.sat_terms.proofs.Truths.{clause_true-from, clause_true-some, lit_true-neg}
-use Rattle.clause_store.specs.Stored.{Stored, slot, slot_lits, is_firm, FirmTrue}
-use Rattle.vivify_pass.specs.Rule.{ResultIsImplied, CalmIsNotShortened, CalmStays}
+use Rattle.clause_store.specs.Stored.{Stored, slot, slot_lits, FirmTrue}
+use Rattle.vivify_pass.specs.Rule.{ResultIsImplied, CalmIsNotShortened}
 use Rattle.firm_terms.specs.Vivifying.{Forced, Fails, negs, Stops, Vivifies, Calm}
 use Rattle.firm_terms.specs.Vivifying.Forced.{start, unit}
 

@@ -15,7 +15,7 @@ use Rattle.trail_state.specs.Trail.{Trace, step, no_step, true_on, value_on, IsT
 use Rattle.trail_state.specs.Clauses.{IsReason}
 use Rattle.trail_state.proofs.Places.{place_of_true, true_at_place}
 use Rattle.watch_lists.specs.Propagation.{Watching, AllQuiet}
-use Rattle.firm_terms.specs.Vivifying.{Forced, Fails, negs, Stops, Vivifies, IsCalm, Calm}
+use Rattle.firm_terms.specs.Vivifying.{Forced, Fails, negs, Vivifies, IsCalm, Calm}
 use Rattle.firm_terms.specs.Vivifying.Forced.{start, unit}
 use Rattle.vivify_pass.specs.Trailing.{AreTrue, Ready, IsSettled, IsHeld, held_form, KeepsRoot, OnlyMakes, Probed, Found}
 use Rattle.vivify_pass.proofs.Forcing.{forced_more, forced_true, has_negs, result_implied}

@@ -1,6 +1,6 @@
 -- Laws of the root: what the firm clauses make true by themselves.
-use Rattle.std.proofs.Common.{◌≡◌, ◌≢◌, ℕ, suc, zero, ◌<◌, ◌≤◌, true, false, not, eqb, ◌&&◌, List, [], ◌∷◌, ◌++◌, length, take, drop, Option, inl, inr, refl, sym, ap, ◌∙◌, subst, arith}
-use Rattle.std.proofs.lemmas.Bool.{cases_lt, and_from, and_parts, ne_eqb}
+use Rattle.std.proofs.Common.{◌≡◌, ◌≢◌, ℕ, suc, zero, ◌<◌, ◌≤◌, true, not, eqb, ◌&&◌, List, [], ◌++◌, length, take, drop, Option, inl, inr, sym, ap, ◌∙◌, subst, arith}
+use Rattle.std.proofs.lemmas.Bool.{cases_lt, and_from, ne_eqb}
 use Rattle.std.proofs.lemmas.List.{get_or_append_left, get_or-take, length-take-le, length-append, take-append-le, take-append-drop, append-nil}
 use Rattle.sat_terms.specs.Literal.{has, neg}
 use Rattle.clause_store.specs.Stored.{Stored, slot, slot_lits}

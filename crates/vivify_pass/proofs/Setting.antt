@@ -1,6 +1,6 @@
 -- Laws of what is set up before the first round.
-use Rattle.std.proofs.Common.{◌≡◌, ℕ, suc, zero, ◌+◌, ◌<◌, ◌≤◌, Bool, true, false, eqb, ◌||◌, List, [], ◌∷◌, length, get_or, take, Option, inl, inr, refl, sym, ap, ◌∙◌, subst, arith}
-use Rattle.std.proofs.lemmas.Bool.{false≢true, cases_lt, false_from_ne_true, or_cases, or_left, or_right, eqb-true, eq-eqb}
+use Rattle.std.proofs.Common.{◌≡◌, ℕ, ◌+◌, ◌<◌, ◌≤◌, Bool, true, false, eqb, ◌||◌, List, [], length, get_or, take, Option, inl, inr, refl, sym, ap, ◌∙◌, subst, arith}
+use Rattle.std.proofs.lemmas.Bool.{cases_lt, false_from_ne_true}
 use Rattle.std.proofs.lemmas.List.{get_or-take, get_or_default, length-take-le, take_all}
 use Rattle.std.proofs.lemmas.List.Folds.{list_any_more}
 use Rattle.sat_terms.specs.Limits.{max_var}
@@ -14,11 +14,6 @@ use Rattle.watch_lists.specs.Propagation.{Watching, Follows}
 use Rattle.vivify_pass.specs.Trailing.{Ready}
 use Rattle.firm_terms.proofs.Counting.{place_of, listed}
 use Rattle.firm_terms.proofs.Summing.{once_apart}
-use Rattle.firm_terms.proofs.Standing.{some_of, some_from}
-use Rattle.firm_terms.specs.Firm.{firm, has_empty}
-use Rattle.pass_terms.proofs.Ruling.{ruled_weaken}
-use Rattle.pass_terms.specs.Ruled.{Ruled, always}
-use Rattle.rule_kernel.specs.State.{State}
 
 pub within_more : (lits : List ℕ) (i x m n : ℕ) → i < length lits → x ≡ get_or lits i x → m ≤ n → 1 ≤ var_of x → var_of x ≤ n → Within m (take i lits) → Within n (take (i + 1) lits)
 within_more lits i x m n in' read le low high h k d lt =

@@ -3,7 +3,8 @@ use Rattle.std.specs.List.{remove}
 use Rattle.clause_store.specs.Stored.{slot, slot_lits}
 use Rattle.pass_terms.specs.Ruled.Ruled.{none}
 use Rattle.subsume_pass.proofs.Clauses.{normal_removed, removed_has}
-use Rattle.subsume_pass.proofs.Changing.{implied_cut, drops_longer, known_new, ruled_next, ruled_same, cuts}
+use Rattle.subsume_pass.proofs.Changing.{implied_cut, cuts}
+use Rattle.pass_terms.proofs.Shortening.{drops_longer, known_new, ruled_next, ruled_same}
 use Rattle.subsume_pass.proofs.change.shorten.Goals as goal
 
 pub returns-in_err-lits-clause-ruled : goal.returns-in_err-lits-clause-ruled

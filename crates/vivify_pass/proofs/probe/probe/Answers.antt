@@ -1,7 +1,5 @@
-use Rattle.std.proofs.Common.{◌≡◌, ◌<◌, length, true, sym, ◌∙◌, arith, inl, inr, ◌++◌, ◌∷◌, []}
+use Rattle.std.proofs.Common.{◌≡◌, ◌<◌, length, arith, inl, inr, ◌++◌, ◌∷◌, []}
 use Rattle.std.proofs.lemmas.List.{length_push}
-use Rattle.sat_terms.specs.Literal.{neg}
-use Rattle.trail_state.specs.Trail.{true_on}
 use Rattle.vivify_pass.proofs.Probing.{probing_skip, probing_assume, free_at, probed_false, probed_true, probed_end}
 use Rattle.vivify_pass.proofs.probe.probe.Goals as goal
 

@@ -1,7 +1,6 @@
 use Rattle.vivify_pass.specs.Trailing.{Probed, Found}
 use Rattle.vivify_pass.proofs.Circling.{if_ok_map}
 use Rattle.vivify_pass.proofs.Holding.{if_found, reason_held, found_probed}
-use Rattle.std.proofs.Common.{IfSome}
 use Rattle.vivify_pass.proofs.trial.find.Goals as goal
 
 pub probe_alone-requires-clause-free : goal.probe_alone-requires-clause-free

@@ -1,4 +1,4 @@
-use Rattle.std.proofs.Common.{◌≡◌, ◌<◌, length, arith}
+use Rattle.std.proofs.Common.{◌≡◌, arith}
 use Rattle.vivify_pass.specs.Trailing.{OnlyMakes, Found, KeepsRoot, held_form}
 use Rattle.vivify_pass.proofs.Holding.{only_held, found_held, keeps_held, if_found}
 use Rattle.vivify_pass.proofs.trial.find_held.Goals as goal

@@ -1,6 +1,5 @@
-use Rattle.std.proofs.Common.{◌≡◌, ℕ, not, eqb, ◌&&◌, ◌++◌, List, sym, ◌∙◌}
+use Rattle.std.proofs.Common.{◌≡◌, ℕ, not, eqb, ◌&&◌, ◌∙◌}
 use Rattle.sat_terms.specs.Literal.{has}
-use Rattle.trail_state.specs.declared.trail.Step.{Step}
 use Rattle.watch_lists.specs.Propagation.{Follows}
 use Rattle.vivify_pass.proofs.Rooting.{back_front, none_back}
 use Rattle.vivify_pass.proofs.Turning.{probes_start, settled_others, declared_all, no_more_id, ready_same}

@@ -1,9 +1,7 @@
-use Rattle.std.proofs.Common.{◌≡◌, ◌≤◌, ℕ, not, eqb, ◌&&◌, length, sym, ◌∙◌, arith}
-use Rattle.std.proofs.lemmas.Bool.{and_from}
-use Rattle.clause_store.specs.Stored.{slot, is_firm}
-use Rattle.sat_terms.specs.Literal.{has}
+use Rattle.std.proofs.Common.{◌∙◌, arith}
 use Rattle.watch_lists.specs.Propagation.{Follows}
-use Rattle.vivify_pass.proofs.Turning.{drops_longer, known_new, ruled_next, ruled_same, firm_still, within_next, ready_next, attached_came, attached_went, shortens_next, came_new}
+use Rattle.pass_terms.proofs.Shortening.{drops_longer, known_new, ruled_next, ruled_same, firm_still}
+use Rattle.vivify_pass.proofs.Turning.{within_next, ready_next, attached_came, attached_went, shortens_next, came_new}
 use Rattle.vivify_pass.proofs.turn.replace.Goals as goal
 
 pub returns-in_err-next-clause-ruled : goal.returns-in_err-next-clause-ruled

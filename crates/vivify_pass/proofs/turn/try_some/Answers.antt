@@ -1,6 +1,6 @@
 use Rattle.std.proofs.Common.{◌<◌, length, arith}
 use Rattle.vivify_pass.proofs.Circling.{trying_more, trying_shorter, trying_full}
-use Rattle.vivify_pass.proofs.Turning.{ruled_same}
+use Rattle.pass_terms.proofs.Shortening.{ruled_same}
 use Rattle.vivify_pass.proofs.turn.try_some.Goals as goal
 
 pub returns-in-Shorter-clause-tried : goal.returns-in-Shorter-clause-tried
