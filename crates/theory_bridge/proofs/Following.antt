@@ -135,7 +135,6 @@ some_same p q h = cc
 module _ (b : Board) (t : Trace) (i : ℕ) (d : Bool)
     (shape : IsTrail t.steps t.level) (sound : IsSeenTrail b.observed b.seen b.level) (f : Follows b t)
     (in' : i < length t.steps) (at : (step t.steps i).level ≡ b.level) (told : AreTold b t.steps i) where
-
   put_here : Board
   put_here = put_on b (step t.steps i).lit d
 
@@ -163,12 +162,12 @@ module _ (b : Board) (t : Trace) (i : ℕ) (d : Bool)
           mirrors = mirrors_put b.seen t.steps e f.mirrors (true_at_place t.steps i e.lit in' refl)
               (level_at t.steps (var_of e.lit) i place ∙ ap Some at)
               (λ j lt hj he p q hp hq.
-                let r = place_of_true t.steps (entry b.seen j).lit (f.mirrors.lits j lt) in
-                let mine = place_apart t.steps (var_of (entry b.seen j).lit) r.0 shape.apart r.1 (ap var_of r.2) in
-                let same : r.0 ≡ p = some_same r.0 p (sym mine ∙ hp) in
-                let here : i ≡ q = some_same i q (sym place ∙ hq) in
-                let less = behind j r.0 lt (omega (arith, at, he)) r.1 r.2 in
-                omega arith);
+              let r = place_of_true t.steps (entry b.seen j).lit (f.mirrors.lits j lt) in
+              let mine = place_apart t.steps (var_of (entry b.seen j).lit) r.0 shape.apart r.1 (ap var_of r.2) in
+              let same : r.0 ≡ p = some_same r.0 p (sym mine ∙ hp) in
+              let here : i ≡ q = some_same i q (sym place ∙ hq) in
+              let less = behind j r.0 lt (omega (arith, at, he)) r.1 r.2 in
+              omega arith);
           unbroken = λ a c lt in'' above w h. elim (told_before b.seen e (step t.steps c).lit h) [
             | inl old ↦ value_kept b.seen e (step t.steps a).lit true (f.unbroken a c lt in'' above w old)
             | inr same ↦ (let here : i ≡ c = shape.apart i c in' in'' (ap var_of same) in value_kept b.seen e (step t.steps a).lit true (told.each a (omega arith) w))

@@ -14,10 +14,14 @@ notice_spent kept desk s t u is n = rw is record { left = n.left; notified = n.n
 
 row_spent : (n : ℕ) (s t u : Shown) → u ≡ record t { spent = u.spent } → Row n s t → Row n s u
 row_spent zero s t u is r = is ∙ ap (λ (x : Shown). record x { spent = u.spent }) r
-row_spent (suc n) s t u is r = (r.0, r.1, elim r.2 [
-  | inl level ↦ inl (notice_spent r.0.board.seen (raise_on r.0.board) r.0 t u is level)
-  | inr lit ↦ inr (lit.0, lit.1, record { notice = notice_spent r.0.board.seen (put_on r.0.board lit.0 lit.1) r.0 t u is lit.2.notice; told = rw is lit.2.told })
-])
+row_spent (suc n) s t u is r = (
+  r.0,
+  r.1,
+  elim r.2 [
+    | inl level ↦ inl (notice_spent r.0.board.seen (raise_on r.0.board) r.0 t u is level)
+    | inr lit ↦ inr (lit.0, lit.1, record { notice = notice_spent r.0.board.seen (put_on r.0.board lit.0 lit.1) r.0 t u is lit.2.notice; told = rw is lit.2.told })
+  ],
+)
 
 row_on : (m n : ℕ) (s t u : Shown) → Row m s t → Row n t u → Row (n + m) s u
 row_on m zero s t u a b = let e : m ≡ 0 + m = omega arith in subst (λ (k : ℕ). Row k s u) e (row_spent m s t u b a)
@@ -56,7 +60,11 @@ keeps_front s t u seen more mid is a b k in' h =
 
 told_none : (s : Shown) (spent : Bool) → Told s (record s { spent = spent })
 told_none s spent = record {
-  admits = refl; scope = refl; kinds = refl; steady = refl; accepted = refl;
+  admits = refl;
+  scope = refl;
+  kinds = refl;
+  steady = refl;
+  accepted = refl;
   explained = λ k l p. p;
   board = refl;
   more = [];
@@ -77,7 +85,11 @@ told_level s t u a n =
     let m = n.notified in
     let size : suc (length a.more + a.levels) ≡ length a.more + (a.levels + 1) = omega arith in
     record {
-      admits = m.admits ∙ a.admits; scope = m.scope ∙ a.scope; kinds = m.counted.kinds ∙ a.kinds; steady = m.counted.steady ∙ a.steady; accepted = m.counted.accepted ∙ a.accepted;
+      admits = m.admits ∙ a.admits;
+      scope = m.scope ∙ a.scope;
+      kinds = m.counted.kinds ∙ a.kinds;
+      steady = m.counted.steady ∙ a.steady;
+      accepted = m.counted.accepted ∙ a.accepted;
       explained = keeps_front s.means t.means u.means s.board.seen a.more t.board.seen a.seen a.explained n.explained;
       board = subst (λ (b : Board). IsOn s.board b) (sym n.board) (ap (λ (b : Board). record b { level = t.board.level + 1 }) a.board);
       more = a.more;
@@ -97,7 +109,11 @@ told_lit s t u l d a h =
     let long = length-append a.more (e ∷ []) in
     let size : suc (length a.more + a.levels) ≡ length (a.more ++ e ∷ []) + a.levels = omega arith in
     record {
-      admits = m.admits ∙ a.admits; scope = m.scope ∙ a.scope; kinds = m.counted.kinds ∙ a.kinds; steady = m.counted.steady ∙ a.steady; accepted = m.counted.accepted ∙ a.accepted;
+      admits = m.admits ∙ a.admits;
+      scope = m.scope ∙ a.scope;
+      kinds = m.counted.kinds ∙ a.kinds;
+      steady = m.counted.steady ∙ a.steady;
+      accepted = m.counted.accepted ∙ a.accepted;
       explained = keeps_front s.means t.means u.means s.board.seen a.more t.board.seen a.seen a.explained n.explained;
       board = subst (λ (b : Board). IsOn s.board b) (sym n.board) (ap (λ (b : Board). record b { seen = t.board.seen ++ e ∷ [] }) a.board);
       more = a.more ++ e ∷ [];

@@ -117,7 +117,6 @@ is_due_at b t place = is_watched b (step t place) && is_none (trail_value b.seen
 
 module _ (t : Trace) (place : ℕ) (s : Shown) (shape : IsTrail t.steps t.level) (sound : IsSeenTrail s.board.observed s.board.seen s.board.level)
     (w : Walks t place s) (in' : place < length t.steps) (at : (step t.steps place).level ≡ s.board.level) where
-
   rest_on : (j : ℕ) → place + 1 ≤ j → j < length t.steps → s.board.level ≤ (step t.steps j).level
   rest_on j ge lt = w.rest j (omega arith) lt
 
@@ -185,12 +184,12 @@ walks_from_last t s start place shape step' f h was = record {
   };
   rest = λ j ge lt. h.rest j (let e = was.after in omega arith) lt;
 } where
-    valued : (v : Option Bool) → trail_value s.board.seen (step t.steps place).lit ≡ v → is_some v ≡ true → IsTold s.board.seen (step t.steps place).lit
-    valued None is e = absurd (false≢true e)
-    valued (Some b) is e = told_value s.board.seen t.steps place f.mirrors shape.apart was.inside b is
+  valued : (v : Option Bool) → trail_value s.board.seen (step t.steps place).lit ≡ v → is_some v ≡ true → IsTold s.board.seen (step t.steps place).lit
+  valued None is e = absurd (false≢true e)
+  valued (Some b) is e = told_value s.board.seen t.steps place f.mirrors shape.apart was.inside b is
 
-    here : IsTold s.board.seen (step t.steps place).lit
-    here = valued (trail_value s.board.seen (step t.steps place).lit) refl was.valued
+  here : IsTold s.board.seen (step t.steps place).lit
+  here = valued (trail_value s.board.seen (step t.steps place).lit) refl was.valued
 
 -- all was told, and the levels are
 pub caught_up : (t : Trace) (s u : Shown) → AreTold s.board t.steps (length t.steps) → WalksOn t s u → u.board ≡ record s.board { level = u.board.level } → t.level ≤ u.board.level → IsCaughtUp u.board t
@@ -235,7 +234,6 @@ walking_out t place s u v h on = walks_on t s u v h.on on
 -- the same as the code reads it: the step at the place is x
 module _ (t : Trace) (place : ℕ) (s : Shown) (shape : IsTrail t.steps t.level) (sound : IsSeenTrail s.board.observed s.board.seen s.board.level)
     (w : Walks t place s) (in' : place < length t.steps) (at : (step t.steps place).level ≡ s.board.level) (x : Step) (is : x ≡ step t.steps place) where
-
   abbrev due_of : Step → Bool
   due_of y = has s.board.observed (var_of y.lit) && is_none (trail_value s.board.seen y.lit)
 

@@ -40,7 +40,7 @@ abbrev pub Row : ℕ → Shown → Shown → Type 0
 Row zero old new = new ≡ record old { spent = new.spent }
 Row (suc n) old new =
     (mid : Shown) × Row n old mid
-        × (TellsLevel mid new ⊎ ((l : ℕ) × (decision : Bool) × TellsLit l decision mid new))
+    × (TellsLevel mid new ⊎ ((l : ℕ) × (decision : Bool) × TellsLit l decision mid new))
 
 -- a row of levels and literals was told
 pub record Tells (old new : Shown) : Type 0 where

@@ -1,6 +1,30 @@
 //! The bridge: the one way from a search to its boxed propagator.
 //!
-//! It owns the box and the desk that the box is lent, and counts the callbacks.
+//! A propagator is a box of unknown make. What the search may rely on is what the laws of `Theory`
+//! say, and these hold only while the propagator is called in the states that they name: in step
+//! with what it was told, about literals that may be told, with clauses and requests taken in
+//! order. So nothing but the bridge holds the box. It owns the desk that the box is lent, and each
+//! of its calls asks of the search what the law behind it asks.
+//!
+//! What always holds of a bridge is one record, `Stands`: the propagator is in step with the desk's
+//! seen trail, and each clause that lies on the desk has variables that are observed or asked for
+//! and is true wherever what is admitted now is. Every call keeps it, whatever is answered. So a
+//! clause that is taken off the desk may be added as implied, however long it lay there: what is
+//! admitted only shrinks.
+//!
+//! The calls are counted, so that a search over a propagator that always asks for more still ends.
+//! One private method decides whether a callback that is due may be made (`count_one`), and every
+//! counted callback begins with it: so `Callbacks` comes exactly where a callback is due and none
+//! is left, and the box is not called then. A budget of 2^62 is none, and the count stops there.
+//! The closing notice (`close`) is not counted, since it comes after the search has ended.
+//!
+//! After a row of calls a search needs to know little: that no more is admitted, that what was
+//! explained is so still, that the desk only gained requests. `Later` and `Asked` say this; they
+//! compose, so no case is told apart by what was answered.
+//!
+//! The interface is that of IPASIR-UP (Fazekas, Niemetz, Preiner, Kirchweger, Szeider and Biere,
+//! "IPASIR-UP: user propagators for CDCL", SAT 2023). What it leaves to the solver, when a literal
+//! is told and in which order requests are taken, is fixed here and in `telling`.
 ghost use Rattle.std.specs.Prelude.{◌≡◌, ◌≤◌, ◌↔◌, ℕ, Bool, List, [], Some, OnOk, OnErr, IfOk, IfErr};
 ghost use Rattle.std.specs.Prelude.{true, false, is_some, IsTrue, Contains};
 ghost use Rattle.std.specs.Option.{option_copied};
@@ -63,7 +87,12 @@ impl Bridge {
     pub fn new(alloc: Global, theory: Box<dyn Theory>) -> Bridge
         requires { InStep (meaning theory) empty_board }
         ensures shown { shown result (meaning result.theory) ≡ record {
-            means = meaning theory; board = empty_board; budget = 0; count = 0; spent = false } }
+          means = meaning theory;
+          board = empty_board;
+          budget = 0;
+          count = 0;
+          spent = false;
+        } }
         ensures stands { Stands (meaning result.theory) result.desk }
     {
         Bridge {
@@ -81,7 +110,10 @@ impl Bridge {
         requires { Unit {0} }
         ensures { shown self.new (meaning self.new.theory)
             ≡ record (shown self.old (meaning self.old.theory)) {
-                budget = budget; count = 0; spent = false } }
+              budget = budget;
+              count = 0;
+              spent = false;
+            } }
     {
         self.budget = budget;
         self.count = 0;
@@ -125,7 +157,8 @@ impl Bridge {
             self.old.desk }
         ensures rest { shown self.new (meaning self.new.theory)
             ≡ record (shown self.old (meaning self.old.theory)) {
-                means = meaning self.new.theory } }
+              means = meaning self.new.theory;
+            } }
         ensures stands { Stands (meaning self.new.theory) self.new.desk }
     {
         self.theory.admit(alloc, what, &self.desk)
@@ -148,8 +181,10 @@ impl Bridge {
     pub fn observe(&mut self, var: Var, trail: &Trail) -> Result<(), Memory>
         requires stands { Stands (meaning self.old.theory) self.old.desk }
         requires root { trail.now.level ≡ 0 }
-        ensures ok { OnOk result (self.new ≡ record self.old { desk
-            = record self.old.desk { observed = with_var self.old.desk.observed var } }) }
+        ensures ok { OnOk result (self.new ≡ record self.old {
+          desk
+              = record self.old.desk { observed = with_var self.old.desk.observed var };
+        }) }
         ensures err { OnErr result (self.new ≡ self.old) }
         ensures follows { Follows self.old.desk trail.now → Follows self.new.desk trail.now }
         ensures stands { Stands (meaning self.new.theory) self.new.desk }
@@ -191,8 +226,10 @@ impl Bridge {
             ≡ Some (asks.Observe v) → has self.old.desk.observed v ≡ true }
         ensures first { requests_of (waiting_of self.new.desk)
             ≡ rest (requests_of (waiting_of self.old.desk)) }
-        ensures after { self.new ≡ record self.old { desk
-            = desk_without self.old.desk (without_first (waiting_of self.old.desk)) } }
+        ensures after { self.new ≡ record self.old {
+          desk
+              = desk_without self.old.desk (without_first (waiting_of self.old.desk));
+        } }
         ensures stands { Stands (meaning self.new.theory) self.new.desk }
     {
         self.desk.drop_request();
@@ -215,10 +252,10 @@ impl Bridge {
         requires { Unit {0} }
         ensures out { is_out (shown self.old (meaning self.old.theory)) ≡ true
             → (result ≡ Err (stops.Callbacks self.old.budget))
-                × (self.new ≡ record self.old { is_spent = true }) }
+            × (self.new ≡ record self.old { is_spent = true }) }
         ensures left { is_out (shown self.old (meaning self.old.theory)) ≡ false
             → (result ≡ Ok tt)
-                × (self.new ≡ record self.old { count = next_count self.old.count }) }
+            × (self.new ≡ record self.old { count = next_count self.old.count }) }
     {
         if self.count == self.budget && self.budget < MOST {
             self.is_spent = true;
@@ -238,12 +275,12 @@ impl Bridge {
             (shown self.new (meaning self.new.theory)) }
         ensures out { is_out (shown self.old (meaning self.old.theory)) ≡ true
             → (result ≡ Err (stops.Callbacks self.old.budget))
-                × (shown self.new (meaning self.new.theory)
-                    ≡ record (shown self.old (meaning self.old.theory)) { spent = true }) }
+            × (shown self.new (meaning self.new.theory)
+            ≡ record (shown self.old (meaning self.old.theory)) { spent = true }) }
         ensures called { is_out (shown self.old (meaning self.old.theory)) ≡ false
             → OneCallback (shown self.old (meaning self.old.theory))
-                (shown self.new (meaning self.new.theory))
-                × IfErr result (λ e. e ≡ stops.Memory) }
+            (shown self.new (meaning self.new.theory))
+            × IfErr result (λ e. e ≡ stops.Memory) }
         ensures propagated { IfOk result (IsPropagated (meaning self.new.theory) self.old.desk) }
         ensures stands { Stands (meaning self.new.theory) self.new.desk }
     {
@@ -276,12 +313,12 @@ impl Bridge {
             (shown self.new (meaning self.new.theory)) }
         ensures out { is_out (shown self.old (meaning self.old.theory)) ≡ true
             → (result ≡ Err (stops.Callbacks self.old.budget))
-                × (shown self.new (meaning self.new.theory)
-                    ≡ record (shown self.old (meaning self.old.theory)) { spent = true }) }
+            × (shown self.new (meaning self.new.theory)
+            ≡ record (shown self.old (meaning self.old.theory)) { spent = true }) }
         ensures called { is_out (shown self.old (meaning self.old.theory)) ≡ false
             → OneCallback (shown self.old (meaning self.old.theory))
-                (shown self.new (meaning self.new.theory))
-                × IfErr result (λ e. e ≡ stops.Memory) }
+            (shown self.new (meaning self.new.theory))
+            × IfErr result (λ e. e ≡ stops.Memory) }
         ensures decided { IfOk result (IsDecided self.old.desk) }
         ensures stands { Stands (meaning self.new.theory) self.new.desk }
     {
@@ -318,12 +355,12 @@ impl Bridge {
             (shown self.new (meaning self.new.theory)) }
         ensures out { is_out (shown self.old (meaning self.old.theory)) ≡ true
             → (result ≡ Err (stops.Callbacks self.old.budget))
-                × (shown self.new (meaning self.new.theory)
-                    ≡ record (shown self.old (meaning self.old.theory)) { spent = true }) }
+            × (shown self.new (meaning self.new.theory)
+            ≡ record (shown self.old (meaning self.old.theory)) { spent = true }) }
         ensures called { is_out (shown self.old (meaning self.old.theory)) ≡ false
             → OneCall (shown self.old (meaning self.old.theory))
-                (shown self.new (meaning self.new.theory))
-                × IfErr result (λ e. e ≡ stops.Memory) }
+            (shown self.new (meaning self.new.theory))
+            × IfErr result (λ e. e ≡ stops.Memory) }
         ensures given { OnOk result ((k : ℕ)
             → StandsAt (meaning self.old.theory) self.old.desk.seen k lit
             → IsReasonGiven (meaning self.new.theory) self.old.desk.seen k lit out.new) }
@@ -367,12 +404,12 @@ impl Bridge {
             (shown self.new (meaning self.new.theory)) }
         ensures out { is_out (shown self.old (meaning self.old.theory)) ≡ true
             → (result ≡ Err (stops.Callbacks self.old.budget))
-                × (shown self.new (meaning self.new.theory)
-                    ≡ record (shown self.old (meaning self.old.theory)) { spent = true }) }
+            × (shown self.new (meaning self.new.theory)
+            ≡ record (shown self.old (meaning self.old.theory)) { spent = true }) }
         ensures called { is_out (shown self.old (meaning self.old.theory)) ≡ false
             → OneCallback (shown self.old (meaning self.old.theory))
-                (shown self.new (meaning self.new.theory))
-                × IfErr result (λ e. e ≡ stops.Memory) }
+            (shown self.new (meaning self.new.theory))
+            × IfErr result (λ e. e ≡ stops.Memory) }
         ensures yes { IfOk result (λ yes. yes ≡ true
             → (meaning self.new.theory).admits (values model.now) ≡ true) }
         ensures no { IfOk result (λ yes. yes ≡ false

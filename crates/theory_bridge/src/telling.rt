@@ -1,4 +1,27 @@
-//! Telling the propagator what stands on the trail.
+//! Telling the propagator what stands on the trail, and that it goes back.
+//!
+//! The propagator sees its own trail, the seen trail on the desk: the literals of observed
+//! variables, and the levels. It lags behind the search's trail, and `tell` brings it up to it. What
+//! `tell` finds, and leaves whatever it answers, is `Follows`: each seen literal stands on the trail
+//! at its level; above the root the seen trail is a prefix of the trail's observed literals; and it
+//! has every observed literal of the levels below its own. At the root the order is free, since a
+//! variable may be observed there when its literal has long been on the trail.
+//!
+//! So the walk need not begin at the front. All before the level that was told last is known to the
+//! propagator; and above the root all before a literal that it has. The bridge remembers the place
+//! of the literal that was told last, and looks whether the trail still has a told literal there:
+//! then the walk begins behind it, and else where the level begins. Nothing has to be kept right
+//! while the trail goes back and grows. At the root the walk goes over the root's literals, and
+//! where nothing is observed there is no walk.
+//!
+//! At each place the walk first opens the levels up to the place's own, then tells the literal if
+//! its variable is observed and has no value on the seen trail (what has one there is true, since
+//! the seen trail has only literals of the trail). Levels rise along the trail, so a level is opened
+//! only when all below it was told: that is why the walk may stop anywhere, at a callback that is
+//! not left, with nothing to undo.
+//!
+//! Each notification is a callback of its own, counted before it is made. `Row` says what a row of
+//! them does, one by one; what it comes to is `Told`.
 ghost use Rattle.std.specs.Prelude.{◌≡◌, ◌≤◌, ◌<◌, ◌+◌, ◌&&◌, ℕ, Ok, OnOk, OnErr, length, max, is_none};
 ghost use Rattle.std.specs.Prelude.{true, false};
 ghost use Rattle.sat_terms.specs.Limits.{max_var};
@@ -130,12 +153,12 @@ impl Bridge {
         requires below { level ≤ self.old.desk.level }
         ensures out { is_out (shown self.old (meaning self.old.theory)) ≡ true
             → (result ≡ Err (stops.Callbacks self.old.budget))
-                × (shown self.new (meaning self.new.theory)
-                    ≡ record (shown self.old (meaning self.old.theory)) { spent = true }) }
+            × (shown self.new (meaning self.new.theory)
+            ≡ record (shown self.old (meaning self.old.theory)) { spent = true }) }
         ensures told { is_out (shown self.old (meaning self.old.theory)) ≡ false
             → (result ≡ Ok tt)
-                × TellsBack level (shown self.old (meaning self.old.theory))
-                    (shown self.new (meaning self.new.theory)) }
+            × TellsBack level (shown self.old (meaning self.old.theory))
+            (shown self.new (meaning self.new.theory)) }
         ensures ended { Ended result (shown self.old (meaning self.old.theory))
             (shown self.new (meaning self.new.theory)) }
         ensures stands { Stands (meaning self.new.theory) self.new.desk }
