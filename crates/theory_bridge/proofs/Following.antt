@@ -224,3 +224,12 @@ flagged_put t from seen e i apart in' is flag h = record {
         ap (λ (x : Seen). x.decision) q ∙ flag ∙ ap (λ (p : ℕ). is_decision (step t p).reason) (sym here))
   ];
 }
+
+-- where nothing was told the seen trail follows every trail
+pub follows_fresh : (b : Board) (t : Trace) → b.seen ≡ [] → b.level ≡ 0 → Follows b t
+follows_fresh b t none root = record {
+  mirrors = subst (λ (xs : List Seen). Mirrors xs t.steps) (sym none) record { lits = λ k lt. absurd (omega arith); levels = λ k lt. absurd (omega arith); order = λ j k lt in'. absurd (omega arith) };
+  unbroken = λ i j lt in' above w h. absurd (let q : None ≡ Some true = subst (λ (xs : List Seen). IsTold xs (step t.steps j).lit) none h in cc);
+  level = omega arith;
+  below = λ i in' low w. absurd (omega arith);
+}

@@ -1,6 +1,6 @@
 -- What always holds of a bridge: the propagator is in step with the seen trail, and what lies on
 -- the desk may be taken.
-use Rattle.std.specs.Prelude.{ℕ, ◌≡◌, true, Bool, List, All}
+use Rattle.std.specs.Prelude.{ℕ, ◌≡◌, true, Bool, List, [], All}
 use Rattle.sat_terms.specs.Literal.{has, var_of}
 use Rattle.sat_terms.specs.Truth.{Assignment, clause_true}
 use Rattle.user_propagator.specs.Board.{Board, Handed}
@@ -21,3 +21,9 @@ pub record Stands (t : Meaning) (b : Board) : Type 0 where
 pub record IsReadyClause (t : Meaning) (b : Board) (c : List ℕ) : Type 0 where
   pub observed : (l : ℕ) → has c l ≡ true → has b.observed (var_of l) ≡ true
   pub implied : (f : Assignment) → t.admits f ≡ true → clause_true f c ≡ true
+
+-- it stands, and nothing was told yet
+pub record IsFresh (t : Meaning) (b : Board) : Type 0 where
+  pub stands : Stands t b
+  pub seen : b.seen ≡ []
+  pub level : b.level ≡ 0
