@@ -1,3 +1,13 @@
+//! For each literal, the cardinalities that hold it.
+//!
+//! The lists stand at the codes of the literals, so that a notification finds its cardinalities at
+//! once, and touches none of the others. They are occurrence lists as clauses have them, but a
+//! cardinality stands in the list of a literal as often as it holds it: so what counts along a list
+//! counts positions, without a word on it in the code.
+//!
+//! A cardinality enters all lists of its literals at their ends, when it is admitted, and never
+//! leaves them. Where there is no memory for one of the lists, what was appended to the others so far
+//! is taken off their ends again, so that a refusal leaves each list as it was.
 ghost use Rattle.std.specs.Prelude.{◌≡◌, ◌≢◌, ◌<◌, ◌-◌, ◌++◌, ◌∷◌, ℕ, [], length, take, replicate, OnOk, OnErr};
 ghost use Rattle.clause_store.specs.Listing.{times};
 ghost use Rattle.clause_store.specs.Lists.{occ_at};

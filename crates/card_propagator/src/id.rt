@@ -1,4 +1,7 @@
 //! The number of a cardinality, in the order of admission.
+//!
+//! Numbers fill the lists of the literals and the queue, where half a word counts, so they are below
+//! 2^32. A type of its own tells a number from a place in a list or a count.
 ghost use Rattle.std.specs.Prelude.{◌≡◌, ◌<◌, ◌^◌, ℕ};
 
 use flag_set::member::Member;

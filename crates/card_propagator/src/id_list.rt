@@ -1,3 +1,7 @@
+//! A list of cardinalities, by their numbers.
+//!
+//! Most literals stand in few cardinalities: up to four numbers lie in the list itself, so that a
+//! table of lists takes one block of memory, and not one more for each literal.
 ghost use Rattle.std.specs.Prelude.{◌≡◌, ◌-◌, [], ◌∷◌, ◌++◌, length, take, OnOk, OnErr};
 
 use crate::id::CardId;

@@ -1,3 +1,11 @@
+//! The cardinalities that wait to be looked at.
+//!
+//! A cardinality waits from when something in it changed so that something may follow from it, until
+//! it was looked at and nothing did. It waits once, however often it changes meanwhile, and is told
+//! from those that do not wait in constant time: so the queue is a work list (a sparse set: Briggs
+//! and Torczon, "An efficient representation for sparse sets", 1993). The order in which they are
+//! looked at is of no concern; the last one comes first, which costs nothing there. There is room for
+//! each from when it was admitted, so that to let one wait never fails.
 ghost use Rattle.std.specs.Prelude.{◌≡◌, ◌<◌, ◌||◌, ◌==◌, ℕ, [], true, IfSome, IfNone};
 ghost use Rattle.sat_terms.specs.Literal.{has};
 ghost use Rattle.card_propagator.specs.Queue.{TakenOut};

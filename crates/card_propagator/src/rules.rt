@@ -1,4 +1,8 @@
-//! Cardinalities: their bounds, their lists and copies.
+//! What a constraint says as a cardinality: its bound and its list, and how it is copied.
+//!
+//! The propagator is given a constraint by reference and keeps a copy. It takes cardinalities alone;
+//! the functions are nonetheless total, and a constraint of another kind reads as a cardinality of
+//! bound 0, from which nothing follows.
 ghost use Rattle.std.specs.Prelude.{◌≡◌, IfOk};
 ghost use Rattle.user_propagator.specs.Meaning.{counted_lits};
 ghost use Rattle.card_propagator.specs.Counting.{bound_of};

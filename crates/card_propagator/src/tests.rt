@@ -284,28 +284,43 @@ fn imply_all(scene: &mut Scene, named: i32) -> Result<[i32; 2], Memory> {
     Ok(found)
 }
 
-#[test]
-fn one_long_list_and_many_short_ones(rt: HostRuntime) -> Result<(), Fail> {
-    let alloc = rt.alloc();
-    let last = Lit::new(7).ok_or("no literal")?;
-    let mut long = scene_of(alloc, 40)?;
-    let mut many = scene_of(alloc, 207)?;
+// What is implied behind a decision.
+fn implied_by(scene: &mut Scene, told: Lit, named: i32) -> Result<[i32; 2], Memory> {
+    scene.open();
+    scene.tell(told, true);
+    imply_all(scene, named)
+}
+
+// At least 39 of 40 variables.
+fn scene_of_forty(alloc: Global) -> Result<Scene, Fail> {
+    let mut scene = scene_of(alloc, 40)?;
     let mut list = Vec::new(alloc);
-    for number in 1..=40 {
-        list.push(Var::new(number).ok_or("no variable")?.positive())?;
+    for number in 0..40u32 {
+        list.push(Var::new(number + 1).ok_or("no variable")?.positive())?;
     }
-    long.admit(39, list.as_slice())?;
-    for number in 8..=207 {
-        let other = Var::new(number).ok_or("no variable")?.positive();
-        many.admit(1, &[last, other])?;
+    scene.admit(39, list.as_slice())?;
+    Ok(scene)
+}
+
+// At least one of variable 1 and another, for 200 others.
+fn scene_of_pairs(alloc: Global) -> Result<Scene, Fail> {
+    let mut scene = scene_of(alloc, 201)?;
+    let one = Lit::new(1).ok_or("no literal")?;
+    for number in 0..200u32 {
+        let other = Var::new(number + 2).ok_or("no variable")?.positive();
+        scene.admit(1, &[one, other])?;
     }
+    Ok(scene)
+}
+
+#[test]
+fn a_long_list_and_many_short_ones(rt: HostRuntime) -> Result<(), Fail> {
+    let one = Lit::new(1).ok_or("no literal")?;
+    let mut long = scene_of_forty(rt.alloc())?;
+    assert_eq!(rt; implied_by(&mut long, one.neg(), 1)?, [39, 39]);
+    let mut many = scene_of_pairs(rt.alloc())?;
     assert_eq!(rt; many.theory.len(), 200);
-    for scene in [&mut long, &mut many] {
-        scene.open();
-        scene.tell(last.neg(), true);
-    }
-    assert_eq!(rt; imply_all(&mut long, 7)?, [39, 39]);
-    assert_eq!(rt; imply_all(&mut many, 7)?, [200, 200]);
+    assert_eq!(rt; implied_by(&mut many, one.neg(), 1)?, [200, 200]);
     Ok(())
 }
 
