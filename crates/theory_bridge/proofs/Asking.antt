@@ -1,11 +1,11 @@
 -- What one question does.
-use Rattle.std.proofs.Common.{◌≡◌, ℕ, Bool, true, List, [], length, Option, Some, None, refl, sym, ap, ◌∙◌, subst, arith}
+use Rattle.std.proofs.Common.{◌≡◌, ℕ, Bool, true, List, [], length, Option, Some, None, refl, sym, ap, subst, arith}
 use Rattle.std.specs.Prelude.{All, drop}
 use Rattle.std.proofs.lemmas.List.{append-nil}
 use Rattle.std.proofs.lemmas.List.Elements.{All-nil}
 use Rattle.std.proofs.Math.Seq.{drop-length}
 use Rattle.user_propagator.specs.Board.{Board, Handed}
-use Rattle.user_propagator.specs.Meaning.{Meaning, CalledBack, OnlyAsks, LevelFell, IsFalseOrUnit, asked_now, handed_now}
+use Rattle.user_propagator.specs.Meaning.{Meaning, CalledBack, OnlyAsks, LevelFell, IsFalseOrUnit}
 use Rattle.theory_bridge.specs.Shown.{Shown}
 use Rattle.theory_bridge.specs.Going.{Asked}
 use Rattle.theory_bridge.specs.Asking.{OneCall, OneCallback, Consulted, AreUrgent, AsksSteadily}

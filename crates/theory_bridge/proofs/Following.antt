@@ -1,19 +1,19 @@
 -- The seen trail goes on following the trail as literals and levels are told.
-use Rattle.std.proofs.Common.{◌≡◌, ◌≢◌, ℕ, zero, suc, eqb, ◌+◌, ◌<◌, ◌≤◌, Bool, true, false, List, [], ◌∷◌, ◌++◌, length, ◌⊎◌, inl, inr, refl, sym, ap, ◌∙◌, subst, arith, Some, None, Option}
-use Rattle.std.proofs.lemmas.Bool.{cases_lt, cases_eq, eqb-true, eq-eqb, ne_eqb, false≢true}
+use Rattle.std.proofs.Common.{◌≡◌, ◌≢◌, ℕ, suc, ◌+◌, ◌<◌, ◌≤◌, Bool, true, false, List, [], ◌∷◌, ◌++◌, length, ◌⊎◌, inl, inr, refl, sym, ap, ◌∙◌, subst, arith, Some, None}
+use Rattle.std.proofs.lemmas.Bool.{cases_lt, cases_eq, eq-eqb, ne_eqb}
 use Rattle.std.proofs.lemmas.List.{get_or_append_left, get_or_push, length-append}
-use Rattle.sat_terms.specs.Literal.{has, neg, var_of}
+use Rattle.sat_terms.specs.Literal.{neg, var_of}
 use Rattle.trail_state.specs.declared.trail.Step.{Step}
 use Rattle.trail_state.specs.Trail.{Trace, step, true_on, place_on, level_on, IsTrail, IsApart}
 use Rattle.trail_state.specs.Table.{is_decision}
-use Rattle.trail_state.proofs.Levels.{below_top, rising}
+use Rattle.trail_state.proofs.Levels.{below_top}
 use Rattle.trail_state.proofs.Values.{not_both}
 use Rattle.trail_state.proofs.Places.{place_apart, place_of_true, true_at_place, level_at}
 use Rattle.user_propagator.specs.declared.seen.Seen.{Seen}
 use Rattle.user_propagator.specs.Board.{Board, entry, no_entry, seen_var, trail_value, IsSeenTrail, with_var}
-use Rattle.user_propagator.specs.Meaning.{put_on, raise_on, cut_to}
+use Rattle.user_propagator.specs.Meaning.{put_on}
 use Rattle.user_propagator.proofs.Seeing.{value_is, value_in, place_some, entry_some}
-use Rattle.theory_bridge.specs.Following.{Mirrors, IsTold, is_watched, Follows, AreTold, IsCaughtUp, AreFlagged}
+use Rattle.theory_bridge.specs.Following.{Mirrors, IsTold, is_watched, Follows, AreTold, AreFlagged}
 
 -- a seen trail with one entry more
 size_push : (seen : List Seen) (e : Seen) → length (seen ++ e ∷ []) ≡ length seen + 1

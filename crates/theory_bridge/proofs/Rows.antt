@@ -1,6 +1,8 @@
 -- Rows of notifications, and what they come to.
-use Rattle.std.proofs.Common.{◌≡◌, ℕ, zero, suc, ◌+◌, ◌<◌, ◌≤◌, ◌⊎◌, inl, inr, Bool, true, List, [], ◌∷◌, ◌++◌, length, get_or, take, refl, sym, ap, ◌∙◌, subst, arith}
-use Rattle.std.proofs.lemmas.List.{append-nil, append_assoc, length-append, get_or_append_left, take-append-le}
+use Rattle.std.proofs.Common.{◌≡◌, ℕ, zero, suc, ◌+◌, ◌<◌, ◌⊎◌, inl, inr, Bool, true, List, [], ◌∷◌, ◌++◌, length, refl, sym, ap, ◌∙◌, subst, arith}
+use Rattle.std.proofs.lemmas.Bool.{cases_lt}
+use Rattle.std.proofs.lemmas.List.{append-nil, append_assoc, length-append, get_or_append_left, get_or_push, take-append-le}
+use Rattle.std.proofs.Math.Seq.{take-append_seam}
 use Rattle.user_propagator.specs.declared.seen.Seen.{Seen}
 use Rattle.user_propagator.specs.Board.{Board, entry, no_entry}
 use Rattle.user_propagator.specs.Meaning.{Meaning, KeepsExplained, IsExplainedAt, next_count, put_on, raise_on}
@@ -134,3 +136,66 @@ told_row (suc n) s u r = elim r.2 [
 
 pub told_tells : (s u : Shown) → Tells s u → Told s u
 told_tells s u h = told_row h.notices s u h.row
+
+-- as many notifications as the seen trail and its level are larger
+row_size : (n : ℕ) (s u : Shown) → Row n s u → length u.board.seen + u.board.level ≡ length s.board.seen + s.board.level + n
+row_size zero s u r = let a = ap (λ (x : Shown). length x.board.seen) r in let b = ap (λ (x : Shown). x.board.level) r in omega arith
+row_size (suc n) s u r =
+    let before = row_size n s r.0 r.1 in
+    elim r.2 [
+      | inl level ↦ (let a = ap (λ (b : Board). length b.seen) level.board in let b = ap (λ (b : Board). b.level) level.board in omega arith)
+      | inr lit ↦ (
+          let e : Seen = record { lit = lit.0; level = r.0.board.level; decision = lit.1 } in
+          let a = ap (λ (b : Board). length b.seen) lit.2.notice.board in
+          let b = ap (λ (b : Board). b.level) lit.2.notice.board in
+          let more = length-append r.0.board.seen (e ∷ []) in
+          omega arith)
+    ]
+
+-- the literal that was told last, by its place
+explained_last : (m : Meaning) (seen : List Seen) (e : Seen) (n : ℕ) → n ≡ length seen → m.explains seen e.lit ≡ true → IsExplainedAt m (seen ++ e ∷ []) n
+explained_last m seen e n is h = rw (is, take-append_seam seen (e ∷ []), get_or_push seen e no_entry (length seen) refl) h
+
+-- The first literal that is told, where no level is, is explained if that was said of it before.
+module _ (l : ℕ) where
+  abbrev IsFirst : Shown → Shown → Type 0
+  IsFirst s u = (entry u.board.seen (length s.board.seen)).lit ≡ l → IsExplainedAt u.means u.board.seen (length s.board.seen)
+
+  first_lit : (n : ℕ) (s t u : Shown) (k : ℕ) (d : Bool) → s.means.explains s.board.seen l ≡ true → Row n s t → t.board.level ≡ s.board.level → TellsLit k d t u
+      → (length s.board.seen < length t.board.seen → IsFirst s t) → IsFirst s u
+  first_lit n s t u k d said r level h before is =
+      let e : Seen = record { lit = k; level = t.board.level; decision = d } in
+      let seen : u.board.seen ≡ t.board.seen ++ e ∷ [] = ap (λ (b : Board). b.seen) h.notice.board in
+      let told = told_row n s t r in
+      let long = ap (λ (xs : List Seen). length xs) told.seen in
+      let sum = length-append s.board.seen told.more in
+      elim (cases_lt (length s.board.seen) (length t.board.seen)) [
+        | inl later ↦
+            let same : (entry t.board.seen (length s.board.seen)).lit ≡ l = (let q = is in rw (seen, get_or_append_left t.board.seen (e ∷ []) no_entry (length s.board.seen) later) at q) in
+            let kept = h.notice.explained (length s.board.seen) later (before later same) in
+            rw seen (explained_longer u.means t.board.seen (e ∷ []) (length s.board.seen) later kept)
+        | inr here ↦
+            let size = row_size n s t r in
+            let none : n ≡ 0 = omega arith in
+            let first : t ≡ record s { spent = t.spent } = subst (λ (m : ℕ). Row m s t) none r in
+            let same : length s.board.seen ≡ length t.board.seen = omega arith in
+            let here' : (entry (t.board.seen ++ e ∷ []) (length s.board.seen)).lit ≡ l = subst (λ (xs : List Seen). (entry xs (length s.board.seen)).lit ≡ l) seen is in
+            let named : k ≡ l = sym (ap (λ (x : Seen). x.lit) (get_or_push t.board.seen e no_entry (length s.board.seen) (sym same))) ∙ here' in
+            let before' : t.means.explains t.board.seen l ≡ true = subst (λ (x : Shown). x.means.explains x.board.seen l ≡ true) (sym first) said in
+            let now : u.means.explains t.board.seen k ≡ true = h.told (subst (λ (q : ℕ). t.means.explains t.board.seen q ≡ true) (sym named) before') in
+            subst (λ (xs : List Seen). IsExplainedAt u.means xs (length s.board.seen)) (sym seen) (explained_last u.means t.board.seen e (length s.board.seen) same now)
+      ]
+
+  first_row : (n : ℕ) (s u : Shown) → s.means.explains s.board.seen l ≡ true → Row n s u → u.board.level ≡ s.board.level → length s.board.seen < length u.board.seen → IsFirst s u
+  first_row zero s u said r level longer = (let a = ap (λ (x : Shown). length x.board.seen) r in absurd (omega arith))
+  first_row (suc n) s u said r level longer = elim r.2 [
+    | inl up ↦ (let a = ap (λ (b : Board). b.level) up.board in let t = told_row n s r.0 r.1 in let b = t.level in absurd (omega arith))
+    | inr lit ↦ (
+        let a = ap (λ (b : Board). b.level) lit.2.notice.board in
+        let same : r.0.board.level ≡ s.board.level = omega arith in
+        first_lit n s r.0 u lit.0 lit.1 said r.1 same lit.2 (λ later. first_row n s r.0 said r.1 same later))
+  ]
+
+  pub first_told : (s u : Shown) → Tells s u → s.means.explains s.board.seen l ≡ true → u.board.level ≡ s.board.level → length s.board.seen < length u.board.seen
+      → (entry u.board.seen (length s.board.seen)).lit ≡ l → IsExplainedAt u.means u.board.seen (length s.board.seen)
+  first_told s u h said level longer = first_row h.notices s u said h.row level longer

@@ -1,17 +1,17 @@
 -- Each call keeps what always holds of a bridge.
-use Rattle.std.proofs.Common.{◌≡◌, ℕ, ◌||◌, ◌&&◌, eqb, Bool, true, false, List, [], ◌∷◌, ◌++◌, Option, Some, None, refl, subst, sym, ap, ◌∙◌, inl, inr}
-use Rattle.std.specs.Prelude.{All, map, is_some, if◌then◌else◌}
-use Rattle.std.proofs.lemmas.Bool.{or_cases, or_left, or_right, eqb-true, false≢true, cases_eq}
+use Rattle.std.proofs.Common.{◌≡◌, ℕ, ◌||◌, ◌&&◌, eqb, Bool, true, false, List, [], ◌∷◌, ◌++◌, Option, Some, None, refl, subst, sym, ◌∙◌, inl, inr}
+use Rattle.std.specs.Prelude.{All, if◌then◌else◌}
+use Rattle.std.proofs.lemmas.Bool.{or_cases, or_left, or_right, eqb-true, false≢true}
 use Rattle.std.proofs.lemmas.List.Elements.{All-nil, All-tail, All-head, All-append, All-weaker}
 use Rattle.sat_terms.specs.Literal.{has, var_of}
-use Rattle.sat_terms.specs.Truth.{Assignment, clause_true}
+use Rattle.sat_terms.specs.Truth.{Assignment}
 use Rattle.sat_terms.proofs.Members.{has-append_left}
 use Rattle.sat_model.specs.Constraint.{constraint_true}
 use Rattle.sat_model.specs.declared.constraint.Constraint.{Constraint}
 use Rattle.user_propagator.specs.Board.{Board, Handed, empty_board, with_var}
-use Rattle.user_propagator.specs.Waiting.{Waiting, requests, waiting_of, first, clause_request, back_requests, desk_without, without_first}
+use Rattle.user_propagator.specs.Waiting.{requests, waiting_of, first, desk_without, without_first}
 use Rattle.user_propagator.specs.declared.request.Request.TheVariants.{Observe, Clause, Back}
-use Rattle.user_propagator.specs.Meaning.{Meaning, InStep, CalledBack, OnlyAsks, IsFair, Notified, cut_to, AdmitsNoMore, Admitted, Refused, KeptByAdmit, handed_now, is_reached}
+use Rattle.user_propagator.specs.Meaning.{Meaning, InStep, CalledBack, OnlyAsks, IsFair, Notified, cut_to, AdmitsNoMore, Admitted, Refused, KeptByAdmit, handed_now}
 use Rattle.theory_bridge.specs.Later.{is_known_on}
 use Rattle.theory_bridge.specs.Standing.{IsFairOn, Stands, IsReadyClause}
 use Rattle.theory_bridge.proofs.Later.{reached_known, known_on, waits_on}

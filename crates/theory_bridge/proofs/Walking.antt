@@ -1,18 +1,17 @@
 -- Parts of the walk along the trail compose.
-use Rattle.std.proofs.Common.{◌≡◌, ℕ, ◌+◌, ◌<◌, ◌≤◌, ◌⊎◌, inl, inr, Bool, true, false, List, length, refl, sym, ap, ◌∙◌, subst, arith, Option, Some, None}
+use Rattle.std.proofs.Common.{◌≡◌, ℕ, ◌+◌, ◌<◌, ◌≤◌, inl, inr, Bool, true, false, List, length, refl, sym, ap, ◌∙◌, subst, arith, Option, Some, None}
 use Rattle.std.proofs.lemmas.Bool.{cases_lt, false≢true}
 use Rattle.trail_state.specs.declared.trail.Step.{Step}
 use Rattle.trail_state.specs.Trail.{Trace, step, IsTrail, IsStart}
 use Rattle.trail_state.specs.Table.{is_decision}
 use Rattle.trail_state.proofs.Levels.{rising, below_top}
 use Rattle.user_propagator.specs.Board.{Board, trail_value, IsSeenTrail}
-use Rattle.user_propagator.specs.declared.seen.Seen.{Seen}
-use Rattle.user_propagator.specs.Meaning.{InStep, raise_on, put_on}
+use Rattle.user_propagator.specs.Meaning.{InStep}
 use Rattle.theory_bridge.specs.Shown.{Shown}
 use Rattle.theory_bridge.specs.Following.{Follows, AreTold, AreFlagged, IsCaughtUp, IsTold, is_watched}
 use Rattle.std.specs.Prelude.{max, ◌&&◌, is_none, is_some, []}
 use Rattle.sat_terms.specs.Literal.{has, var_of}
-use Rattle.theory_bridge.specs.Telling.{TellsLevel, TellsLit, Tells, Told, Walks, WalksOn, AreToldBelow, WasTold}
+use Rattle.theory_bridge.specs.Telling.{TellsLevel, TellsLit, Told, Walks, WalksOn, AreToldBelow, WasTold}
 use Rattle.theory_bridge.proofs.Following.{follows_level, follows_put, told_put, told_skip, told_value, flagged_put, flagged_none}
 use Rattle.theory_bridge.proofs.Rows.{tells_on, tells_none, tells_level, tells_lit, told_tells}
 use Rattle.theory_bridge.specs.Standing.{Stands}

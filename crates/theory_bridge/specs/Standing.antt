@@ -1,6 +1,6 @@
 -- What always holds of a bridge: the propagator is in step with the seen trail, and what lies on
 -- the desk may be taken.
-use Rattle.std.specs.Prelude.{ℕ, ◌≡◌, true, Bool, List, [], All}
+use Rattle.std.specs.Prelude.{ℕ, ◌≡◌, true, List, [], All}
 use Rattle.sat_terms.specs.Literal.{has, var_of}
 use Rattle.sat_terms.specs.Truth.{Assignment, clause_true}
 use Rattle.user_propagator.specs.Board.{Board, Handed}

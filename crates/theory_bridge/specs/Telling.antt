@@ -3,7 +3,7 @@ use Rattle.std.specs.Prelude.{ℕ, zero, suc, ◌≡◌, ◌+◌, ◌<◌, ◌�
 use Rattle.trail_state.specs.Trail.{Trace, step}
 use Rattle.user_propagator.specs.declared.seen.Seen.{Seen}
 use Rattle.user_propagator.specs.Board.{Board, trail_value}
-use Rattle.user_propagator.specs.Meaning.{Meaning, Notified, KeepsExplained, InStep, next_count}
+use Rattle.user_propagator.specs.Meaning.{Notified, KeepsExplained, InStep, next_count}
 use Rattle.user_propagator.specs.Meaning.{put_on, raise_on, cut_to}
 use Rattle.theory_bridge.specs.Shown.{Shown, is_out}
 use Rattle.theory_bridge.specs.Going.{count_on}

@@ -1,7 +1,5 @@
 -- What is observed before the place was told.
-use Rattle.std.proofs.Common.{◌≡◌}
 use Rattle.theory_bridge.specs.Shown.{facing}
-use Rattle.theory_bridge.specs.Telling.{Walks, WalksOn}
 use Rattle.theory_bridge.proofs.Walking.{IsWalking}
 use Rattle.theory_bridge.proofs.bridge.Bridge.tell_literals.Given as goal
 

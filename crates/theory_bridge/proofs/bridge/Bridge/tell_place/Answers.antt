@@ -1,7 +1,7 @@
 -- The level of the place is told first, and then its literal.
-use Rattle.std.proofs.Common.{◌≡◌, ◌≤◌, ℕ, sym, subst}
+use Rattle.std.proofs.Common.{◌≤◌, ℕ, sym, subst}
 use Rattle.theory_bridge.specs.Telling.{AreToldBelow}
-use Rattle.theory_bridge.proofs.Walking.{level_within, told_below, walks_raised, raised_as, walks_on}
+use Rattle.theory_bridge.proofs.Walking.{level_within, told_below, raised_as, walks_on}
 use Rattle.theory_bridge.proofs.bridge.Bridge.tell_place.Goals as goal
 
 pub tell_levels-requires-clause-within : goal.tell_levels-requires-clause-within
