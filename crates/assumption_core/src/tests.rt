@@ -5,7 +5,10 @@ ghost use Rattle.clause_store.specs.Stored.{slot, slot_lits};
 ghost use Rattle.trail_state.specs.Trail.{step, true_on};
 ghost use Rattle.trail_state.specs.Clauses.{FalseOn};
 ghost use Rattle.trail_state.specs.declared.reason.Reason.TheVariants.{Decision};
-ghost use Rattle.assumption_core.specs.Core.{DecidesAssumed};
+ghost use Rattle.rooted_trails.specs.Rooted.{Rooted};
+ghost use Rattle.theory_bridge.specs.Shown.{facing};
+ghost use Rattle.lazy_reasons.specs.Idle.{IsIdle};
+ghost use Rattle.assumption_core.specs.Core.{DecidesAssumed, Starts};
 
 use crate::cores::{CoreStart, core_of};
 use clause_store::store::Store;
@@ -15,7 +18,10 @@ use sat_model::lists::{ClauseId, Lits};
 use sat_model::literal::Lit;
 use std::alloc::Global;
 use std::test::Fail;
+use theory_bridge::bridge::Bridge;
 use trail_state::trail::Trail;
+use user_propagator::nothing::NoTheory;
+use user_propagator::theory::Theory;
 
 // What a scene is made of, and its core. The clauses; the literals of the trail, each with the
 // number of its reason, or 0 where it was decided; the assumptions; the one that is false, or 0;
@@ -67,6 +73,40 @@ fn is_conflict(store: &Store, trail: &Trail, id: ClauseId) -> bool
     store.is_live(id) && is_false(trail, store.get(id))
 }
 
+// The core, where the propagator rules nothing out.
+fn core_beside(
+    alloc: Global,
+    store: &Store,
+    trail: &Trail,
+    bridge: &mut Bridge,
+    assumptions: &[Lit],
+    start: CoreStart,
+) -> Result<Lits, Fail>
+    requires idle { IsIdle (facing meaning bridge.old) }
+    requires rooted { Rooted store.now trail.now.steps }
+    requires decisions { DecidesAssumed trail.now.steps assumptions.now }
+    requires start { Starts store.now trail.now.steps assumptions.now start }
+{
+    Ok(core_of(alloc, store, trail, bridge, assumptions, start)?)
+}
+
+// The core, where no propagator is connected.
+fn core_beside_none(
+    alloc: Global,
+    store: &Store,
+    trail: &Trail,
+    assumptions: &[Lit],
+    start: CoreStart,
+) -> Result<Lits, Fail>
+    requires rooted { Rooted store.now trail.now.steps }
+    requires decisions { DecidesAssumed trail.now.steps assumptions.now }
+    requires start { Starts store.now trail.now.steps assumptions.now start }
+{
+    let theory: Box<dyn Theory> = Box::new(alloc, NoTheory::new())?;
+    let mut bridge = Bridge::new(alloc, theory);
+    core_beside(alloc, store, trail, &mut bridge, assumptions, start)
+}
+
 // The core of a falsified assumption.
 fn falsified_core(
     alloc: Global,
@@ -78,7 +118,7 @@ fn falsified_core(
     let store = scene.store();
     let trail = scene.trail();
     if decides_assumed(trail, assumptions) && is_falsified(trail, assumptions, lit) {
-        return Ok(core_of(alloc, store, trail, assumptions, CoreStart::Falsified(lit))?);
+        return core_beside_none(alloc, store, trail, assumptions, CoreStart::Falsified(lit));
     }
     Err("not a false assumption")?
 }
@@ -94,7 +134,7 @@ fn conflict_core(
     let store = scene.store();
     let trail = scene.trail();
     if decides_assumed(trail, assumptions) && is_conflict(store, trail, id) {
-        return Ok(core_of(alloc, store, trail, assumptions, CoreStart::Conflict(id))?);
+        return core_beside_none(alloc, store, trail, assumptions, CoreStart::Conflict(id));
     }
     Err("not a false clause")?
 }

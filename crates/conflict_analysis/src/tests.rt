@@ -2,6 +2,9 @@
 ghost use Rattle.std.specs.Prelude.{◌≡◌, ◌<◌, ◌≤◌, true, false, None, IsSome};
 ghost use Rattle.clause_store.specs.Stored.{slot, slot_lits};
 ghost use Rattle.trail_state.specs.Clauses.{FalseOn};
+ghost use Rattle.rooted_trails.specs.Rooted.{Rooted};
+ghost use Rattle.theory_bridge.specs.Shown.{facing};
+ghost use Rattle.lazy_reasons.specs.Idle.{IsIdle};
 ghost use Rattle.conflict_analysis.specs.Learning.{Reaches};
 
 use crate::analysis::{AnalyzeStop, Learned, analyze};
@@ -14,7 +17,10 @@ use sat_model::lists::ClauseId;
 use sat_model::literal::Lit;
 use std::alloc::Global;
 use std::test::Fail;
+use theory_bridge::bridge::Bridge;
 use trail_state::trail::Trail;
+use user_propagator::nothing::NoTheory;
+use user_propagator::theory::Theory;
 
 // A scene, and the clause that is false on its trail.
 #[derive(Drop)]
@@ -85,8 +91,53 @@ fn is_ready(tally: &Tally) -> bool
     !tally.is_spent() && tally.owes().is_none()
 }
 
+// What a conflict teaches, where the propagator rules nothing out.
+fn learned_beside(
+    alloc: Global,
+    store: &Store,
+    trail: &Trail,
+    bridge: &mut Bridge,
+    scratch: &mut Scratch,
+    tally: &mut Tally,
+    conflict: ClauseId,
+) -> Result<Learned, AnalyzeStop>
+    requires idle { IsIdle (facing meaning bridge.old) }
+    requires rooted { Rooted store.now trail.now.steps }
+    requires fresh { tally.old.is_spent ≡ false }
+    requires settled { tally.old.owes ≡ None }
+    requires live { IsSome (slot store.now conflict) }
+    requires is_false { FalseOn trail.now.steps (slot_lits (slot store.now conflict)) }
+    requires above { 0 < trail.now.level }
+    requires reaches { Reaches trail.now.steps trail.now.level (slot_lits (slot store.now conflict)) }
+{
+    analyze(alloc, store, trail, bridge, scratch, tally, conflict)
+}
+
+// What a conflict teaches, where no propagator is connected.
+fn learned_beside_none(
+    alloc: Global,
+    store: &Store,
+    trail: &Trail,
+    scratch: &mut Scratch,
+    tally: &mut Tally,
+    conflict: ClauseId,
+) -> Result<Result<Learned, AnalyzeStop>, Fail>
+    requires rooted { Rooted store.now trail.now.steps }
+    requires fresh { tally.old.is_spent ≡ false }
+    requires settled { tally.old.owes ≡ None }
+    requires live { IsSome (slot store.now conflict) }
+    requires is_false { FalseOn trail.now.steps (slot_lits (slot store.now conflict)) }
+    requires above { 0 < trail.now.level }
+    requires reaches { Reaches trail.now.steps trail.now.level (slot_lits (slot store.now conflict)) }
+{
+    let theory: Box<dyn Theory> = Box::new(alloc, NoTheory::new())?;
+    let mut bridge = Bridge::new(alloc, theory);
+    Ok(learned_beside(alloc, store, trail, &mut bridge, scratch, tally, conflict))
+}
+
 // What a conflict teaches.
 fn learned_from(
+    alloc: Global,
     made: &Conflict,
     scratch: &mut Scratch,
     tally: &mut Tally,
@@ -95,7 +146,7 @@ fn learned_from(
     let store = made.scene.store();
     let trail = made.scene.trail();
     if is_ready(tally) && is_conflict(store, trail, made.clause) {
-        return Ok(analyze(store, trail, scratch, tally, made.clause));
+        return learned_beside_none(alloc, store, trail, scratch, tally, made.clause);
     }
     Err("no conflict")?
 }
@@ -110,7 +161,7 @@ fn teaches(
     let made = set_up(alloc, row)?;
     tally.start(1);
     let before = tally.total();
-    let learned = learned_from(&made, scratch, tally)??;
+    let learned = learned_from(alloc, &made, scratch, tally)??;
     let clause = lits(alloc, row.learned)?;
     let owed = lit(row.owed)?;
     let taught = scratch.learned() == clause.as_slice()
@@ -288,7 +339,7 @@ fn budgets_end(rt: HostRuntime) -> Result<(), Fail> {
     let mut scratch = Scratch::new(rt.alloc());
     let mut tally = Tally::new();
     tally.start(0);
-    let answer = learned_from(&made, &mut scratch, &mut tally)?;
+    let answer = learned_from(rt.alloc(), &made, &mut scratch, &mut tally)?;
     assert!(rt; answer.err() == Some(AnalyzeStop::Conflicts(0)));
     assert!(rt; tally.is_spent() && tally.owes().is_none() && tally.total() == 0);
     Ok(())

@@ -1,9 +1,8 @@
 -- Laws of turns that decide.
-use Rattle.std.proofs.Common.{◌≡◌, ℕ, ◌+◌, ◌<◌, true, false, List, [], ◌∷◌, ◌++◌, ◌≤◌, length, get_or, take, ◌⊎◌, inl, inr, refl, sym, ap, ◌∙◌, subst, arith, Option}
+use Rattle.std.proofs.Common.{◌≡◌, ℕ, ◌+◌, ◌<◌, true, false, List, [], ◌∷◌, ◌++◌, ◌≤◌, length, get_or, take, ◌⊎◌, inl, inr, refl, sym, ◌∙◌, subst, arith, Option}
 use Rattle.std.proofs.lemmas.Bool.{false≢true}
 use Rattle.std.proofs.lemmas.List.{take-append-le, take_at, length_push}
-use Rattle.std.proofs.lemmas.List.{append-nil, append_assoc}
-use Rattle.sat_terms.specs.Literal.{has, pos_lit}
+use Rattle.sat_terms.specs.Literal.{has}
 use Rattle.sat_terms.proofs.Members.{has_more}
 use Rattle.clause_store.specs.Stored.{Stored}
 use Rattle.trail_state.specs.declared.trail.Step.{Step}

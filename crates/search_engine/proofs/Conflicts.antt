@@ -1,6 +1,6 @@
 -- What a learned clause changes.
 use Rattle.std.proofs.Common.{◌≡◌, ◌≢◌, ℕ, suc, ◌<◌, ◌≤◌, true, false, ◌||◌, eqb, List, [], ◌∷◌, ◌++◌, length, get_or, take, inl, inr, refl, sym, ap, ◌∙◌, subst, arith, Option, Some, None}
-use Rattle.std.specs.Prelude.{IsSome, is_some}
+use Rattle.std.specs.Prelude.{IsSome}
 use Rattle.std.proofs.lemmas.Bool.{false≢true, cases_eq, or_right, eq-eqb, ne_eqb}
 use Rattle.std.proofs.lemmas.List.{length-take-le, take-take, take-append-le}
 use Rattle.std.proofs.Math.Bool.{or-false}

@@ -1,6 +1,5 @@
 -- What a tally counts.
-use Rattle.std.proofs.Common.{◌≡◌, ℕ, ◌+◌, ◌≤◌, arith}
-use Rattle.std.specs.Prelude.{min}
+use Rattle.std.proofs.Common.{◌≡◌, ℕ, ◌≤◌, arith}
 use Rattle.sat_terms.specs.Limits.{max_number}
 use Rattle.conflict_analysis.specs.Counting.{Counted}
 use Rattle.conflict_analysis.specs.Learning.{Rises}

@@ -1,5 +1,5 @@
 -- What a search keeps.
-use Rattle.std.proofs.Common.{◌≡◌, ◌≤◌, ℕ, true, List, length, refl, sym, ap, ◌∙◌, Option}
+use Rattle.std.proofs.Common.{◌≡◌, ℕ, List, length, refl, sym, ap, ◌∙◌, Option}
 use Rattle.clause_store.specs.Stored.{Stored}
 use Rattle.search_engine.specs.declared.state.Core.{Core}
 use Rattle.search_engine.specs.Searching.{clauses, IsReady, IsOrderly, IsStanding, Learns, Keeps}

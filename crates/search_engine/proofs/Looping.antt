@@ -1,10 +1,10 @@
 -- Laws of turns that propagate, and of what a search keeps from turn to turn.
-use Rattle.std.proofs.Common.{◌≡◌, ℕ, suc, zero, ◌+◌, ◌-◌, ◌*◌, ◌^◌, ◌<◌, ◌≤◌, Bool, true, false, List, [], ◌∷◌, ◌++◌, length, inl, inr, refl, sym, ap, ◌∙◌, arith, Option, None, Result, Ok, Err, IfOk, OnOk}
+use Rattle.std.proofs.Common.{◌≡◌, ℕ, ◌<◌, ◌≤◌, List, ◌++◌, length, inl, inr, refl, sym, ◌∙◌, arith, Option, Result, Ok, Err, IfOk, OnOk}
 use Rattle.std.specs.Prelude.{IsSome}
 use Rattle.std.proofs.lemmas.Bool.{cases_lt}
 use Rattle.std.proofs.lemmas.List.{take-append-le, get_or_append_left}
 use Rattle.sat_terms.specs.Truth.{Assignment, values}
-use Rattle.clause_store.specs.Stored.{Stored, slot, slot_lits, is_firm, FirmTrue}
+use Rattle.clause_store.specs.Stored.{Stored, slot, slot_lits, FirmTrue}
 use Rattle.trail_state.specs.declared.trail.Step.{Step}
 use Rattle.trail_state.specs.declared.reason.Reason.{Reason}
 use Rattle.trail_state.specs.declared.reason.Reason.TheVariants.{Decision, Clause, Theory}
@@ -23,7 +23,7 @@ use Rattle.search_engine.specs.declared.state.Spent.TheVariants.{Conflicts}
 use Rattle.search_engine.specs.declared.conflict.Turn.{Turn}
 use Rattle.search_engine.specs.declared.conflict.Turn.TheVariants.{Goes, Ends}
 use Rattle.search_engine.specs.declared.cursor.Cursor.{Cursor}
-use Rattle.search_engine.specs.Searching.{IsOrderly, AttachesLive, IsReady, Learns, Keeps, FoundIs}
+use Rattle.search_engine.specs.Searching.{AttachesLive, IsReady, Learns, Keeps, FoundIs}
 use Rattle.search_engine.specs.Turns.{AssumesFirst, IsBetweenTurns, Passed, measure, TurnIs}
 use Rattle.search_engine.proofs.Choices.{passed_kept}
 use Rattle.search_engine.proofs.Keeping.{learns_same, keeps_ready}

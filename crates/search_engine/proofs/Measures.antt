@@ -1,11 +1,10 @@
 -- The measure of a search.
-use Rattle.std.proofs.Common.{◌≡◌, ℕ, suc, zero, ◌+◌, ◌-◌, ◌*◌, ◌^◌, ◌<◌, ◌≤◌, Bool, true, false, List, [], ◌∷◌, ◌++◌, length, refl, ◌∙◌, arith}
+use Rattle.std.proofs.Common.{◌≡◌, ℕ, suc, zero, ◌+◌, ◌*◌, ◌^◌, ◌<◌, ◌≤◌, Bool, true, false, List, [], ◌∷◌, ◌++◌, length, refl, ◌∙◌, arith}
 use Rattle.std.proofs.Math.Nat.{mul-le-mul_right}
 use Rattle.trail_state.specs.declared.trail.Step.{Step}
 use Rattle.trail_state.specs.Trail.{Trace}
 use Rattle.trail_state.specs.Rank.{rank}
 use Rattle.trail_state.proofs.Ranks.{rank-bound}
-use Rattle.search_policy.specs.Plan.{Plan, restarts_left}
 use Rattle.search_engine.specs.Turns.{RankRises, left_over}
 
 -- the rank does not fall as a trail grows

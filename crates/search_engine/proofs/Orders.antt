@@ -1,12 +1,10 @@
 -- The order of decisions beside a trail.
-use Rattle.std.proofs.Common.{◌≡◌, ℕ, ◌<◌, ◌≤◌, true, List, [], ◌++◌, inl, inr, refl, sym, ◌∙◌, arith}
+use Rattle.std.proofs.Common.{◌≡◌, ℕ, ◌≤◌, List, [], ◌++◌, inl, inr, sym, ◌∙◌, arith}
 use Rattle.std.proofs.lemmas.Bool.{cases_lt}
 use Rattle.std.proofs.lemmas.List.{append-nil}
-use Rattle.std.specs.Prelude.{IsSome}
-use Rattle.sat_terms.specs.Literal.{pos_lit}
 use Rattle.trail_state.specs.declared.trail.Step.{Step}
-use Rattle.trail_state.specs.Trail.{Trace, value_on, IsBack}
-use Rattle.decide_order.specs.Ordering.{Ordered, is_active, Follows, KeepsFollowing, Declares, SameActive, SameVars, NoneOpen}
+use Rattle.trail_state.specs.Trail.{Trace, IsBack}
+use Rattle.decide_order.specs.Ordering.{Ordered, Follows, KeepsFollowing, Declares, SameActive, SameVars, NoneOpen}
 use Rattle.decide_order.proofs.Backs.{follows_longer}
 use Rattle.search_engine.specs.Searching.{IsOrderly, AllValued}
 

@@ -1,5 +1,5 @@
 -- Turns of a search.
-use Rattle.std.specs.Prelude.{◌≡◌, ◌≢◌, ◌⊎◌, ◌+◌, ◌-◌, ◌*◌, ◌^◌, ◌<◌, ◌≤◌, ℕ, Bool, true, false, List, [], ◌∷◌, ◌++◌, length, take, Option, None}
+use Rattle.std.specs.Prelude.{◌≡◌, ◌≢◌, ◌⊎◌, ◌+◌, ◌-◌, ◌*◌, ◌^◌, ◌<◌, ◌≤◌, ℕ, true, false, List, [], ◌∷◌, ◌++◌, length, take, Option, None}
 use Rattle.sat_terms.specs.Literal.{has}
 use Rattle.clause_store.specs.Stored.{Stored, slot}
 use Rattle.trail_state.specs.declared.trail.Step.{Step}

@@ -78,6 +78,7 @@ fn assume(
     requires assumed { has assumptions.now lit ≡ true }
     requires untrue { true_on state.old.trail.steps lit ≡ false }
     ensures idle { IsIdle (facing meaning bridge.new) }
+    ensures callbacks { (facing meaning bridge.new).budget ≡ (facing meaning bridge.old).budget }
     ensures turn { IfOk result (TurnIs assumptions.now state.old state.new) }
     ensures keeps { Keeps state.old state.new }
     ensures passed { (cursor : Cursor) → Passed assumptions.now state.old cursor → Passed assumptions.now state.new cursor }
@@ -146,6 +147,7 @@ pub(crate) fn choose(
     requires quiet { AllQuiet state.old.watches.attached (clauses state.old) state.old.trail.steps }
     requires passed { Passed assumptions.now state.old cursor.old }
     ensures idle { IsIdle (facing meaning bridge.new) }
+    ensures callbacks { (facing meaning bridge.new).budget ≡ (facing meaning bridge.old).budget }
     ensures turn { IfOk result (TurnIs assumptions.now state.old state.new) }
     ensures keeps { Keeps state.old state.new }
     ensures tally { state.new.tally ≡ state.old.tally }

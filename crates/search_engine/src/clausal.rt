@@ -50,6 +50,7 @@ pub(crate) fn learn_clausal(
     requires above { 0 < trail.now.level }
     requires reaches { Reaches trail.now.steps trail.now.level (slot_lits (slot store.now conflict)) }
     ensures idle { IsIdle (facing meaning bridge.new) }
+    ensures callbacks { (facing meaning bridge.new).budget ≡ (facing meaning bridge.old).budget }
     ensures normal { OnOk result (IsNormal scratch.new.lits) }
     ensures is_false { OnOk result (FalseOn trail.now.steps scratch.new.lits) }
     ensures implied { OnOk result (Implies (Known store.now everything) scratch.new.lits) }
@@ -79,6 +80,7 @@ pub(crate) fn core_clausal(
     requires decisions { DecidesAssumed trail.now.steps assumptions.now }
     requires start { Starts store.now trail.now.steps assumptions.now start }
     ensures idle { IsIdle (facing meaning bridge.new) }
+    ensures callbacks { (facing meaning bridge.new).budget ≡ (facing meaning bridge.old).budget }
     ensures core { IfOk result (λ core. IsCore (Known store.now everything) assumptions.now core) }
 {
     match core_of(alloc, store, trail, bridge, assumptions, start) {

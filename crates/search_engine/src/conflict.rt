@@ -92,6 +92,7 @@ pub(crate) fn learn_from(
     requires live { IsSome (slot (clauses state.old) conflict) }
     requires is_false { FalseOn state.old.trail.steps (slot_lits (slot (clauses state.old) conflict)) }
     ensures idle { IsIdle (facing meaning bridge.new) }
+    ensures callbacks { (facing meaning bridge.new).budget ≡ (facing meaning bridge.old).budget }
     ensures turn { IfOk result (TurnIs assumptions.now state.old state.new) }
     ensures keeps { Keeps state.old state.new }
     ensures budget { state.new.tally.budget ≡ state.old.tally.budget }

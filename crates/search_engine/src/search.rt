@@ -38,6 +38,7 @@ fn take_turn(
     requires stands { IsBetweenTurns assumptions.now state.old }
     requires passed { Passed assumptions.now state.old cursor.old }
     ensures idle { IsIdle (facing meaning bridge.new) }
+    ensures callbacks { (facing meaning bridge.new).budget ≡ (facing meaning bridge.old).budget }
     ensures turn { IfOk result (TurnIs assumptions.now state.old state.new) }
     ensures keeps { Keeps state.old state.new }
     ensures budget { state.new.tally.budget ≡ state.old.tally.budget }
@@ -80,6 +81,7 @@ pub fn search(
     requires root { state.old.trail.level ≡ 0 }
     requires budget { budget.conflicts ≤ max_number }
     ensures idle { IsIdle (facing meaning bridge.new) }
+    ensures callbacks { (facing meaning bridge.new).budget ≡ budget.callbacks }
     ensures found { IfOk result (FoundIs assumptions.now state.old state.new) }
     ensures keeps { Keeps state.old state.new }
     ensures budget { state.new.tally.budget ≡ budget.conflicts }

@@ -1,4 +1,4 @@
-use Rattle.lazy_reasons.proofs.Idling.{idle_ready, idle_later, idle_core, never_due}
+use Rattle.lazy_reasons.proofs.Idling.{idle_ready}
 use Rattle.search_engine.proofs.clausal.core_clausal.Goals as goal
 
 pub core_of-requires-clause-ready : goal.core_of-requires-clause-ready

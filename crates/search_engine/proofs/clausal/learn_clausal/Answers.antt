@@ -1,4 +1,4 @@
-use Rattle.lazy_reasons.proofs.Idling.{idle_ready, idle_later, idle_implied, idle_met}
+use Rattle.lazy_reasons.proofs.Idling.{idle_ready}
 use Rattle.search_engine.proofs.clausal.learn_clausal.Goals as goal
 
 pub analyze-requires-clause-ready : goal.analyze-requires-clause-ready

@@ -1,5 +1,5 @@
-use Rattle.std.proofs.Common.{◌∙◌, refl, sym}
-use Rattle.search_engine.proofs.Conflicts.{taught_by, owed_is, false_watched, taught_learns, taught_rooted, taught_declared, taught_free, last_first, last_jumped, last_ready}
+use Rattle.std.proofs.Common.{◌∙◌, refl}
+use Rattle.search_engine.proofs.Conflicts.{taught_by, owed_is, false_watched, taught_learns, taught_declared, taught_free, last_first, last_jumped, last_ready}
 use Rattle.search_engine.proofs.Freeing.{stored_keeps}
 use Rattle.search_engine.proofs.Keeping.{keeps_ready}
 use Rattle.search_engine.proofs.Orders.{orderly_back, orderly_longer}

@@ -1,10 +1,10 @@
-use Rattle.std.proofs.Common.{◌≡◌, sym, ap, ◌∙◌}
+use Rattle.std.proofs.Common.{ap, ◌∙◌}
 use Rattle.rooted_trails.proofs.Reasons.{rooted_back}
 use Rattle.search_policy.specs.Plan.{restarts_left}
 use Rattle.search_engine.proofs.Keeping.{keeps_none, keeps_more}
 use Rattle.search_engine.proofs.Measures.{left_paced}
 use Rattle.conflict_analysis.proofs.Returns.{false_back, reaches_back, highest_reaches, highest_bound}
-use Rattle.search_engine.proofs.Conflicts.{root_conflict, false_within, ready_back, keeps_back, first_back}
+use Rattle.search_engine.proofs.Conflicts.{root_conflict, ready_back, keeps_back, first_back}
 use Rattle.search_engine.proofs.Orders.{orderly_back, orderly_picked}
 use Rattle.search_engine.proofs.Jumps.{jump_rises, jumped_back}
 use Rattle.search_engine.proofs.conflict.learn_from.Goals as goal

@@ -1,6 +1,4 @@
-use Rattle.std.proofs.Common.{true, sym, ap, ◌∙◌}
-use Rattle.std.specs.Prelude.{is_some}
-use Rattle.rooted_trails.proofs.Reasons.{live_filled}
+use Rattle.std.proofs.Common.{sym, ◌∙◌}
 use Rattle.search_engine.proofs.Conflicts.{slots_filled}
 use Rattle.search_engine.proofs.Freeing.{fills_frees}
 use Rattle.search_engine.proofs.conflict.store_attached.Goals as goal

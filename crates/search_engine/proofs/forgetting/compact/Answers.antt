@@ -1,4 +1,4 @@
-use Rattle.std.proofs.Common.{refl, ap}
+use Rattle.std.proofs.Common.{refl}
 use Rattle.search_engine.proofs.Freeing.{stored_stands, stored_keeps}
 use Rattle.search_engine.proofs.forgetting.compact.Goals as goal
 

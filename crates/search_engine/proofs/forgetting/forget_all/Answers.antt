@@ -1,4 +1,4 @@
-use Rattle.std.proofs.Common.{sym, ◌∙◌}
+use Rattle.std.proofs.Common.{◌∙◌}
 use Rattle.search_engine.proofs.Freeing.{slots_freed, freed_stands, freed_keeps}
 use Rattle.search_engine.proofs.Readying.{redundant_live}
 use Rattle.search_engine.proofs.forgetting.forget_all.Goals as goal

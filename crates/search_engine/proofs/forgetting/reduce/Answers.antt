@@ -1,5 +1,5 @@
 use Rattle.search_engine.proofs.Readying.{has_times}
-use Rattle.search_engine.proofs.Keeping.{keeps_none, keeps_more}
+use Rattle.search_engine.proofs.Keeping.{keeps_more}
 use Rattle.search_engine.proofs.forgetting.reduce.Goals as goal
 
 pub forget_all-requires-clause-each : goal.forget_all-requires-clause-each

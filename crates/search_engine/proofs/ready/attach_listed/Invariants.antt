@@ -1,4 +1,4 @@
-use Rattle.std.proofs.Common.{◌≡◌, ℕ, length}
+use Rattle.std.proofs.Common.{◌≡◌, length}
 use Rattle.trail_state.specs.Trail.{Trace}
 use Rattle.watch_lists.specs.Propagation.{Follows}
 use Rattle.search_engine.specs.Searching.{IsListing}

@@ -14,6 +14,7 @@ loop-found-init g c =
     let orderly = orderly_picked c.args.state.now.order c.stable.new.self trail same (c.stable.ensures.follows trail) ready.orderly in
     record {
       idle = idle_started _ _ _ c.requires.idle c.start-2.ensures;
+      callbacks = ap (λ b. b.budget) c.start-2.ensures;
       stands = record {
         ready = ready_same _ c.args.state.now _ ready refl refl refl refl refl same.declared orderly;
         first = first_at_root _ _ _ c.law_shape.ensures c.requires.root;
@@ -33,6 +34,7 @@ loop-found-preserved g c =
     let next = rw c.in-Goes.is at turn.turn in
     record {
       idle = turn.idle;
+      callbacks = turn.callbacks ∙ before.callbacks;
       stands = next.stands;
       passed = turn.passed;
       keeps = keeps_more _ _ _ before.keeps turn.keeps;

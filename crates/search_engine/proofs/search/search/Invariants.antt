@@ -8,6 +8,7 @@ use Rattle.search_engine.proofs.search.search.Given as goal
 abbrev pub invariant-loop-found : goal.invariant-loop-found
 invariant-loop-found g l = record {
   idle : IsIdle (facing (λ b. (goal.Theory-dyn g b).meaning b.1) l.bridge);
+  callbacks : (facing (λ b. (goal.Theory-dyn g b).meaning b.1) l.bridge).budget ≡ l.fn.budget.callbacks;
   stands : IsBetweenTurns l.assumptions l.state;
   passed : Passed l.assumptions l.state l.cursor;
   keeps : Keeps l.fn.state l.state;

@@ -1,5 +1,3 @@
-use Rattle.std.proofs.Common.{refl, sym, ap, ◌∙◌}
-use Rattle.std.specs.Prelude.{is_some}
 use Rattle.rooted_trails.proofs.Reasons.{rooted_filled, live_filled}
 use Rattle.search_engine.proofs.Readying.{listing_filled, listing_live}
 use Rattle.search_engine.proofs.state.Core.add.Goals as goal

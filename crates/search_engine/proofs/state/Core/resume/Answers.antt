@@ -1,4 +1,4 @@
-use Rattle.std.proofs.Common.{arith, ◌∙◌, sym, refl}
+use Rattle.std.proofs.Common.{arith, ◌∙◌, sym}
 use Rattle.search_engine.proofs.Readying.{listing_none}
 use Rattle.search_engine.proofs.Looping.{on_ok_more}
 use Rattle.search_engine.proofs.state.Core.resume.Goals as goal
