@@ -1,50 +1,53 @@
 -- The statements that ended among words are those that the words close.
 use Rattle.std.proofs.Common.{◌≡◌, ◌∙◌, sym, ap, refl, subst, arith, ⊎_elim, inl, inr, ℕ, ◌≤◌, List, [], ◌∷◌, ◌++◌, length, Some}
 use Rattle.std.specs.Prelude.{◌⊎◌, ◌≢◌}
-use Rattle.icnf_reader.specs.Grammar.{Statement, Clause, Query, IsFit, LongestFit, NoneFit, Ended}
+use Rattle.icnf_reader.specs.Grammar.{Statement, Clause, Card, Query, allowed_by, IsFit, LongestFit, NoneFit, Ended}
 use Rattle.icnf_reader.specs.Outcomes.{Point, doing, start, statements_of, items_of, header_of}
 use Rattle.icnf_reader.specs.declared.item.Heads.{Heads}
-use Rattle.icnf_reader.specs.declared.item.HeadKind.{HeadKind}
+use Rattle.icnf_reader.specs.declared.item.Allowed.{Allowed}
 use Rattle.icnf_reader.specs.declared.item.Header.{Header}
 use Rattle.icnf_reader.specs.declared.item.Item.TheVariants as item
 use Rattle.icnf_reader.specs.declared.reader.Mode.{Mode}
-use Rattle.icnf_reader.specs.declared.reader.Mode.TheVariants.{Start, Kind, Vars, Clauses, Between, InClause, InQuery}
+use Rattle.icnf_reader.specs.declared.reader.Mode.TheVariants.{Start, Kind, Vars, Clauses, Between, InClause, InQuery, Bound, InCard}
 use Rattle.icnf_reader.proofs.Modes.{leads, lead_on, modes, fit_leads, leads_fit}
 use Rattle.icnf_reader.proofs.Said.{moved, emitted, said, lead_step, emits, fit_says}
 
 -- between two statements, or not
 abbrev pub IsBetween : Mode → Type 0
-IsBetween m = (k : HeadKind) × (m ≡ Between k)
+IsBetween m = (k : Allowed) × (m ≡ Between k)
 
-pub mode_cases : (m : Mode) → IsBetween m ⊎ ((k : HeadKind) → m ≢ Between k)
+pub mode_cases : (m : Mode) → IsBetween m ⊎ ((k : Allowed) → m ≢ Between k)
 mode_cases (Start heads) = inr (λ k e. cc)
 mode_cases (Kind heads) = inr (λ k e. cc)
-mode_cases Vars = inr (λ k e. cc)
-mode_cases (Clauses vars) = inr (λ k e. cc)
-mode_cases (Between kind) = inl (kind, refl)
-mode_cases (InClause kind) = inr (λ k e. cc)
-mode_cases InQuery = inr (λ k e. cc)
+mode_cases (Vars heads kind) = inr (λ k e. cc)
+mode_cases (Clauses heads kind vars) = inr (λ k e. cc)
+mode_cases (Between may) = inl (may, refl)
+mode_cases (InClause may) = inr (λ k e. cc)
+mode_cases (InQuery may) = inr (λ k e. cc)
+mode_cases (Bound may) = inr (λ k e. cc)
+mode_cases (InCard may b) = inr (λ k e. cc)
 
 -- the statements of items that were made of them
 pub statements_items : (ss : List Statement) → statements_of (items_of ss) ≡ ss
 statements_items [] = refl
 statements_items (Clause ls ∷ ss) = ap (λ x. Clause ls ∷ x) (statements_items ss)
+statements_items (Card b ls ∷ ss) = ap (λ x. Card b ls ∷ x) (statements_items ss)
 statements_items (Query ls ∷ ss) = ap (λ x. Query ls ∷ x) (statements_items ss)
 
 -- the longest front of words that leads between two statements
 record LastClose (ws : List (List ℕ)) (p : Point) : Type 0 where
   front : List (List ℕ)
   rest : List (List ℕ)
-  kind : HeadKind
+  may : Allowed
   cut : ws ≡ front ++ rest
-  goes : modes front p.mode ≡ Some (Between kind)
+  goes : modes front p.mode ≡ Some (Between may)
   same : said ws p ≡ said front p
-  longest : (longer more : List (List ℕ)) (k : HeadKind) → ws ≡ longer ++ more → modes longer p.mode ≡ Some (Between k) → length longer ≤ length front
+  longest : (longer more : List (List ℕ)) (k : Allowed) → ws ≡ longer ++ more → modes longer p.mode ≡ Some (Between k) → length longer ≤ length front
 
 -- no front leads there
 record NeverCloses (ws : List (List ℕ)) (p : Point) : Type 0 where
   none : said ws p ≡ []
-  never : (front rest : List (List ℕ)) (k : HeadKind) → ws ≡ front ++ rest → modes front p.mode ≡ Some (Between k) → ⊥
+  never : (front rest : List (List ℕ)) (k : Allowed) → ws ≡ front ++ rest → modes front p.mode ≡ Some (Between k) → ⊥
 
 -- a front of no words
 empty_front : (front rest : List (List ℕ)) → [] ≡ front ++ rest → front ≡ []
@@ -54,8 +57,8 @@ empty_front (w ∷ front) rest c = cc
 -- what holds of each front of the words behind the first, holds of each longer front
 fronts : (P : List (List ℕ) → Type 0) (w : List ℕ) (ws : List (List ℕ)) (p : Point) (m : Mode) → lead_on (modes ws) (leads p.mode (doing p.mode w)) ≡ Some m
     → (IsBetween p.mode → P [])
-    → ((front rest : List (List ℕ)) (k : HeadKind) → ws ≡ front ++ rest → modes front (moved (doing p.mode w) p).mode ≡ Some (Between k) → P (w ∷ front))
-    → (front rest : List (List ℕ)) (k : HeadKind) → w ∷ ws ≡ front ++ rest → modes front p.mode ≡ Some (Between k) → P front
+    → ((front rest : List (List ℕ)) (k : Allowed) → ws ≡ front ++ rest → modes front (moved (doing p.mode w) p).mode ≡ Some (Between k) → P (w ∷ front))
+    → (front rest : List (List ℕ)) (k : Allowed) → w ∷ ws ≡ front ++ rest → modes front p.mode ≡ Some (Between k) → P front
 fronts P w ws p m e here there [] rest k c g = here (k, cc)
 fronts P w ws p m e here there (x ∷ front) rest k c g =
     let same : x ≡ w = cc in
@@ -71,7 +74,7 @@ close_step w ws p m e = ⊎_elim
     (λ (a : LastClose ws (moved (doing p.mode w) p)). inl (record {
       front = w ∷ a.front;
       rest = a.rest;
-      kind = a.kind;
+      may = a.may;
       cut = ap (λ y. w ∷ y) a.cut;
       goes = ap (lead_on (modes a.front)) (lead_step (doing p.mode w) p ws m e).0 ∙ a.goes;
       same = ap (λ y. emitted (doing p.mode w) p ++ y) a.same;
@@ -79,22 +82,22 @@ close_step w ws p m e = ⊎_elim
           (λ front rest k c g. omega (arith, a.longest front rest k c g));
     }))
     (λ (b : NeverCloses ws (moved (doing p.mode w) p)).
-    let not : (k : HeadKind) → (moved (doing p.mode w) p).mode ≢ Between k = λ k is. b.never [] ws k refl (ap Some is) in
+    let not : (k : Allowed) → (moved (doing p.mode w) p).mode ≢ Between k = λ k is. b.never [] ws k refl (ap Some is) in
     let nothing : said (w ∷ ws) p ≡ [] = ⊎_elim
     (λ (none : emitted (doing p.mode w) p ≡ []). ap (λ y. y ++ said ws (moved (doing p.mode w) p)) none ∙ b.none)
-    (λ (is : (k : HeadKind) × ((moved (doing p.mode w) p).mode ≡ Between k)). absurd (not is.0 is.1))
+    (λ (is : (k : Allowed) × ((moved (doing p.mode w) p).mode ≡ Between k)). absurd (not is.0 is.1))
     (emits (doing p.mode w) p) in
     ⊎_elim
     (λ (is : IsBetween p.mode). inl (record {
       front = [];
       rest = w ∷ ws;
-      kind = is.0;
+      may = is.0;
       cut = refl;
       goes = ap Some is.1;
       same = nothing;
       longest = fronts (λ longer. length longer ≤ 0) w ws p m e (λ here. omega arith) (λ front rest k c g. absurd (b.never front rest k c g));
     }))
-    (λ (outside : (k : HeadKind) → p.mode ≢ Between k). inr (record {
+    (λ (outside : (k : Allowed) → p.mode ≢ Between k). inr (record {
       none = nothing;
       never = fronts (λ longer. ⊥) w ws p m e (λ is. outside is.0 is.1) b.never;
     }))
@@ -105,13 +108,13 @@ last_close [] p m e = ⊎_elim
     (λ (is : IsBetween p.mode). inl (record {
       front = [];
       rest = [];
-      kind = is.0;
+      may = is.0;
       cut = refl;
       goes = ap Some is.1;
       same = refl;
       longest = λ longer more k c g. let empty = empty_front longer more c in omega (arith, ap length empty);
     }))
-    (λ (not : (k : HeadKind) → p.mode ≢ Between k). inr (record {
+    (λ (not : (k : Allowed) → p.mode ≢ Between k). inr (record {
       none = refl;
       never = λ front rest k c g. let x : Some p.mode ≡ Some (Between k) = ap (λ y. modes y p.mode) (sym (empty_front front rest c)) ∙ g in
           let y : p.mode ≡ Between k = cc in not k y;
@@ -123,7 +126,7 @@ last_close (w ∷ ws) p m e = close_step w ws p m e (last_close ws (moved (doing
 pub ended_is : (heads : Heads) (ws : List (List ℕ)) (m : Mode) → modes ws (Start heads) ≡ Some m → Ended heads ws (header_of (said ws (start heads))).vars (statements_of (said ws (start heads)))
 ended_is heads ws m e = ⊎_elim
     (λ (a : LastClose ws (start heads)).
-    let f = leads_fit heads a.kind a.front a.goes in
+    let f = leads_fit heads a.may a.front a.goes in
     let items : said ws (start heads) ≡ item.Header f.0 ∷ items_of f.1 = a.same ∙ (fit_says heads a.front f.0 f.1 f.2).0 in
     let is : f.1 ≡ statements_of (said ws (start heads)) = sym (ap statements_of items ∙ statements_items f.1) in
     inl (
@@ -133,11 +136,11 @@ ended_is heads ws m e = ⊎_elim
         rest = a.rest;
         cut = a.cut;
         fit = subst (IsFit heads a.front f.0) is f.2;
-        longest = λ longer more h others c fit. a.longest longer more h.kind c (fit_leads heads longer h others fit);
+        longest = λ longer more h others c fit. a.longest longer more (allowed_by heads h.kind) c (fit_leads heads longer h others fit);
       },
       ap (λ x. (header_of x).vars) items,
     ))
-    (λ (b : NeverCloses ws (start heads)). inr ((λ front rest h ss c fit. b.never front rest h.kind c (fit_leads heads front h ss fit)), ap statements_of b.none, ap (λ x. (header_of x).vars) b.none))
+    (λ (b : NeverCloses ws (start heads)). inr ((λ front rest h ss c fit. b.never front rest (allowed_by heads h.kind) c (fit_leads heads front h ss fit)), ap statements_of b.none, ap (λ x. (header_of x).vars) b.none))
     (last_close ws (start heads) m e)
 
 -- two fronts of one length are the same

@@ -7,17 +7,17 @@ use Rattle.sat_terms.specs.Limits.{max_literals, max_line, max_input}
 use Rattle.io_edge.specs.Lines.{line_text}
 use Rattle.icnf_reader.specs.Words.{line_words}
 use Rattle.icnf_reader.specs.Tokens.{Token, Word, Fault, CutOff, tokens}
-use Rattle.icnf_reader.specs.Grammar.{Statement, IsFew, IsBadWord, Ended, end_reason}
+use Rattle.icnf_reader.specs.Grammar.{Statement, allowed_by, IsFew, IsBadWord, Ended, end_reason}
 use Rattle.icnf_reader.specs.Script.{Ending, Whole, Bad, Stopped, texts, word_tokens, InOrder, HasOneTooMany, IsFault, IsWhole, IsBad, IsStopped, Says, text_tokens, last_line_of}
 use Rattle.icnf_reader.specs.Outcomes.{Point, Outcome, doing, follow, reads, nothing, at_end, start, statements_of, header_of, query_at_end, script_of}
 use Rattle.icnf_reader.specs.Laws.{IsOutcome, TextIsSaid, TextIsGiven, CutIsSaid, CutIsGiven}
 use Rattle.icnf_reader.specs.declared.item.Heads.{Heads}
-use Rattle.icnf_reader.specs.declared.item.HeadKind.{HeadKind}
+use Rattle.icnf_reader.specs.declared.item.Allowed.{Allowed}
 use Rattle.icnf_reader.specs.declared.item.Item.{Item}
 use Rattle.icnf_reader.specs.declared.item.Why.{Why}
 use Rattle.icnf_reader.specs.declared.item.Why.TheVariants.{TooManyLiterals, LineTooLong, InputTooLong}
 use Rattle.icnf_reader.specs.declared.reader.Mode.{Mode}
-use Rattle.icnf_reader.specs.declared.reader.Mode.TheVariants.{Start, Kind, Vars, Clauses, Between, InClause, InQuery}
+use Rattle.icnf_reader.specs.declared.reader.Mode.TheVariants.{Start, Kind, Vars, Clauses, Between, InClause, InQuery, Bound, InCard}
 use Rattle.icnf_reader.specs.declared.reader.Meaning.{Meaning}
 use Rattle.icnf_reader.specs.declared.reader.Meaning.TheVariants.{Enters, Adds, Closes, Heading, Wrong}
 use Rattle.icnf_reader.proofs.Modes.{leads, modes, ending_words, fit_leads, leads_fit, leads_ended, partial_somewhere, leads_partial, one_more}
@@ -30,7 +30,7 @@ none_wrong : (m : Mode) (mean : Meaning) → leads m mean ≡ None → (why : Wh
 none_wrong m (Enters k) e = absurd (cc)
 none_wrong m (Adds l) e = absurd (cc)
 none_wrong m Closes e = absurd (cc)
-none_wrong m (Heading h) e = absurd (cc)
+none_wrong m (Heading h may) e = absurd (cc)
 none_wrong m (Wrong why) e = (why, refl)
 
 -- how many literals words have so far
@@ -41,11 +41,13 @@ count_of heads ws = (after ws (start heads)).count
 ending_count : (m : Mode) (lits : List ℕ) (n : ℕ) → (after (ending_words m) (record { mode = m; lits = lits; count = n })).count ≡ n
 ending_count (Start heads) lits n = refl
 ending_count (Kind heads) lits n = refl
-ending_count Vars lits n = refl
-ending_count (Clauses vars) lits n = refl
-ending_count (Between kind) lits n = refl
-ending_count (InClause kind) lits n = refl
-ending_count InQuery lits n = refl
+ending_count (Vars heads kind) lits n = refl
+ending_count (Clauses heads kind vars) lits n = refl
+ending_count (Between may) lits n = refl
+ending_count (InClause may) lits n = refl
+ending_count (InQuery may) lits n = refl
+ending_count (Bound may) lits n = refl
+ending_count (InCard may b) lits n = refl
 
 ended_count : (m : Mode) (p : Point) → p.mode ≡ m → (after (ending_words m) p).count ≡ p.count
 ended_count m p is =
@@ -105,7 +107,7 @@ whole_given heads all last vars ss s =
     let e = fit_leads heads ws s.header s.body s.fit in
     let few : count_of heads ws ≤ max_literals = omega (arith, fit_count heads ws s.header s.body s.fit, s.few) in
     let items = (fit_says heads ws s.header s.body s.fit).0 in
-    let o = none_behind heads s.words (Between s.header.kind) all [] last Whole (s.are ∙ sym (append-nil (word_tokens s.words))) e few (ap (λ m. nothing (at_end m last)) (after_mode ws (start heads) (Between s.header.kind) e)) in
+    let o = none_behind heads s.words (Between (allowed_by heads s.header.kind)) all [] last Whole (s.are ∙ sym (append-nil (word_tokens s.words))) e few (ap (λ m. nothing (at_end m last)) (after_mode ws (start heads) (Between (allowed_by heads s.header.kind)) e)) in
     let g = outcome_is (reads all (start heads) last) (said ws (start heads)) Whole o in (
       g.0 ∙ ap (λ x. (header_of x).vars) items ∙ sym s.vars_are,
       g.1 ∙ ap (λ x. statements_of x ++ query_at_end Whole (header_of x).kind) items
@@ -117,7 +119,7 @@ whole_given heads all last vars ss s =
 fault_given : (heads : Heads) (before : List (ℕ × List ℕ)) (behind : List Token) (last n : ℕ) (why : Why) (m : Mode) → modes (texts before) (Start heads) ≡ Some m → count_of heads (texts before) ≤ max_literals
     → IsFault heads (texts before) behind last n why → reads behind (after (texts before) (start heads)) last ≡ nothing (Bad n why)
 fault_given heads before [] last n why m e few f =
-    let not : (k : HeadKind) → m ≢ Between k = λ k is. let x = leads_fit heads k (texts before) (e ∙ ap Some is) in f.0 x.0 x.1 x.2 in
+    let not : (k : Allowed) → m ≢ Between k = λ k is. let x = leads_fit heads k (texts before) (e ∙ ap Some is) in f.0 x.0 x.1 x.2 in
     ap (λ k. nothing (at_end k last)) (after_mode (texts before) (start heads) m e) ∙ ap nothing (unfit_end heads (texts before) m last e not)
     ∙ ap (λ k. nothing (Bad k (end_reason (texts before)))) (sym f.1) ∙ ap (λ y. nothing (Bad n y)) (sym f.2)
 fault_given heads before (Fault k y ∷ ts) last n why m e few f = ap (λ j. nothing (Bad j y)) (sym f.0) ∙ ap (λ z. nothing (Bad n z)) (sym f.1)
@@ -234,9 +236,9 @@ end_said heads before m all last cut e few = ⊎_elim
       script = refl;
     } in
     said_as heads all last f.0.vars (f.1 ++ query_at_end Whole f.0.kind) Whole s)
-    (λ (not : (k : HeadKind) → m ≢ Between k).
+    (λ (not : (k : Allowed) → m ≢ Between k).
     fault_said heads before [] all m last last (end_reason (texts before)) cut e few
-    ((λ h ss fit. let x : Some m ≡ Some (Between h.kind) = sym e ∙ fit_leads heads (texts before) h ss fit in let y : m ≡ Between h.kind = cc in not h.kind y), refl, refl))
+    ((λ h ss fit. let x : Some m ≡ Some (Between (allowed_by heads h.kind)) = sym e ∙ fit_leads heads (texts before) h ss fit in let y : m ≡ Between (allowed_by heads h.kind) = cc in not (allowed_by heads h.kind) y), refl, refl))
     (mode_cases m)
 
 -- What is given of tokens that begin with words in order is said of them.

@@ -4,10 +4,10 @@ use Rattle.io_edge.specs.Told.{WhereTold}
 use Rattle.io_edge.specs.Reading.{rest_of}
 use Rattle.icnf_reader.specs.Outcomes.{Point, Outcome, reads, doing, follow, put_item, nothing, at_end, start, text_reads, statements_of}
 use Rattle.icnf_reader.specs.Script.{text_tokens}
-use Rattle.icnf_reader.specs.Grammar.{Clause, Query}
+use Rattle.icnf_reader.specs.Grammar.{Clause, Card, Query}
 use Rattle.io_edge.specs.Lines.{lines}
 use Rattle.icnf_reader.specs.declared.reader.Mode.{Mode}
-use Rattle.icnf_reader.specs.declared.reader.Mode.TheVariants.{Start, Kind, Vars, Clauses, Between, InClause, InQuery}
+use Rattle.icnf_reader.specs.declared.reader.Mode.TheVariants.{Start, Kind, Vars, Clauses, Between, InClause, InQuery, Bound, InCard}
 use Rattle.icnf_reader.specs.declared.item.Heads.{Heads}
 use Rattle.icnf_reader.specs.WordState.{WordState, GivesWord, GivesEnd, tokens_left, left_over, last_line, WordAnswers, TakesLines, BreaksOff}
 use Rattle.icnf_reader.specs.ReadState.{ReadState, outcome, Takes, ReadAnswers, SameOutcome, GivesItem, over, LeadsOver, StopsOver, ReadsOver, read_is_last, end_answer, at_start}
@@ -68,6 +68,7 @@ pub turn_item : (old now new : ReadState) (mid : WordState) (left left' left'' :
 turn_item old now new mid left left' left'' n item.End told word same t = absurd t.0
 turn_item old now new mid left left' left'' n (item.Header h) told word same t = item_told old now new mid left left' left'' n (item.Header h) told word same t
 turn_item old now new mid left left' left'' n (item.Clause ls) told word same t = item_told old now new mid left left' left'' n (item.Clause ls) told word same t
+turn_item old now new mid left left' left'' n (item.Card b ls) told word same t = item_told old now new mid left left' left'' n (item.Card b ls) told word same t
 turn_item old now new mid left left' left'' n (item.Query ls) told word same t = item_told old now new mid left left' left'' n (item.Query ls) told word same t
 
 -- a word is read, whatever comes behind the lines that were taken
@@ -108,6 +109,7 @@ pub item_over : (old now new : ReadState) (mid : WordState) (left left' left'' :
 item_over old now new mid left left' left'' n item.End told word same stays t = absurd t.0
 item_over old now new mid left left' left'' n (item.Header h) told word same stays t = turn_over (put_item (item.Header h)) old now new mid left left' left'' n told word same stays t.1
 item_over old now new mid left left' left'' n (item.Clause ls) told word same stays t = turn_over (put_item (item.Clause ls)) old now new mid left left' left'' n told word same stays t.1
+item_over old now new mid left left' left'' n (item.Card b ls) told word same stays t = turn_over (put_item (item.Card b ls)) old now new mid left left' left'' n told word same stays t.1
 item_over old now new mid left left' left'' n (item.Query ls) told word same stays t = turn_over (put_item (item.Query ls)) old now new mid left left' left'' n told word same stays t.1
 
 stops : (old now : ReadState) (x y z : List ℕ) → (old.words.lines.ended ≡ true → now.words.lines.ended ≡ true) → LeadsOver old now (λ o. o) x y → BreaksOff now.words y z → StopsOver old x z
@@ -161,6 +163,7 @@ pub answer_done : (old new : ReadState) (d : Bool) (left left' : Option (List �
 answer_done old new d left left' item.End a = a
 answer_done old new d left left' (item.Header h) a = a
 answer_done old new d left left' (item.Clause ls) a = a
+answer_done old new d left left' (item.Card b ls) a = a
 answer_done old new d left left' (item.Query ls) a = a
 
 leads_done : (f : Outcome → Outcome) (old new : ReadState) (d : Bool) (x y : List ℕ) → LeadsOver old new f x y → LeadsOver old (record { words = new.words; point = new.point; done = d }) f x y
@@ -171,6 +174,7 @@ pub over_done : (old new : ReadState) (d : Bool) (left left' : Option (List ℕ)
 over_done old new d left left' item.End a = a
 over_done old new d left left' (item.Header h) a = told_more (rest_of old.words.lines left) (rest_of new.words.lines left') (λ x y. leads_done (put_item (item.Header h)) old new d x y) a
 over_done old new d left left' (item.Clause ls) a = told_more (rest_of old.words.lines left) (rest_of new.words.lines left') (λ x y. leads_done (put_item (item.Clause ls)) old new d x y) a
+over_done old new d left left' (item.Card b ls) a = told_more (rest_of old.words.lines left) (rest_of new.words.lines left') (λ x y. leads_done (put_item (item.Card b ls)) old new d x y) a
 over_done old new d left left' (item.Query ls) a = told_more (rest_of old.words.lines left) (rest_of new.words.lines left') (λ x y. leads_done (put_item (item.Query ls)) old new d x y) a
 
 -- no word is left
@@ -185,11 +189,13 @@ end_said : (m : Mode) (old new : ReadState) (last : ℕ) (left left' : Option (L
     → ReadAnswers old new left left' (end_answer m last)
 end_said (Start heads) old new last left left' a = told_left (rest_of old.words.lines left) (rest_of new.words.lines left') (λ x z p. p.0) a
 end_said (Kind heads) old new last left left' a = told_left (rest_of old.words.lines left) (rest_of new.words.lines left') (λ x z p. p.0) a
-end_said Vars old new last left left' a = told_left (rest_of old.words.lines left) (rest_of new.words.lines left') (λ x z p. p.0) a
-end_said (Clauses vars) old new last left left' a = told_left (rest_of old.words.lines left) (rest_of new.words.lines left') (λ x z p. p.0) a
-end_said (Between kind) old new last left left' a = a
-end_said (InClause kind) old new last left left' a = told_left (rest_of old.words.lines left) (rest_of new.words.lines left') (λ x z p. p.0) a
-end_said InQuery old new last left left' a = told_left (rest_of old.words.lines left) (rest_of new.words.lines left') (λ x z p. p.0) a
+end_said (Vars heads kind) old new last left left' a = told_left (rest_of old.words.lines left) (rest_of new.words.lines left') (λ x z p. p.0) a
+end_said (Clauses heads kind vars) old new last left left' a = told_left (rest_of old.words.lines left) (rest_of new.words.lines left') (λ x z p. p.0) a
+end_said (Between may) old new last left left' a = a
+end_said (InClause may) old new last left left' a = told_left (rest_of old.words.lines left) (rest_of new.words.lines left') (λ x z p. p.0) a
+end_said (InQuery may) old new last left left' a = told_left (rest_of old.words.lines left) (rest_of new.words.lines left') (λ x z p. p.0) a
+end_said (Bound may) old new last left left' a = told_left (rest_of old.words.lines left) (rest_of new.words.lines left') (λ x z p. p.0) a
+end_said (InCard may b) old new last left left' a = told_left (rest_of old.words.lines left) (rest_of new.words.lines left') (λ x z p. p.0) a
 
 pub end_told : (old now new : ReadState) (left left' left'' : Option (List ℕ)) (last : ℕ) (r : Result Item Stop)
     → WhereTold (rest_of old.words.lines left) (rest_of now.words.lines left') (SameOutcome old now)
@@ -212,4 +218,5 @@ statements_of-append [] ys = refl
 statements_of-append (item.End ∷ xs) ys = statements_of-append xs ys
 statements_of-append (item.Header h ∷ xs) ys = statements_of-append xs ys
 statements_of-append (item.Clause ls ∷ xs) ys = ap (λ ss. Clause ls ∷ ss) (statements_of-append xs ys)
+statements_of-append (item.Card b ls ∷ xs) ys = ap (λ ss. Card b ls ∷ ss) (statements_of-append xs ys)
 statements_of-append (item.Query ls ∷ xs) ys = ap (λ ss. Query ls ∷ ss) (statements_of-append xs ys)

@@ -1,16 +1,17 @@
 -- What a reader of items has done.
 use Rattle.std.specs.Prelude.{◌≡◌, ◌≤◌, ℕ, ◌-◌, Bool, true, false, List, [], ◌∷◌, ◌++◌, length, Result, Ok, Err, IfSome, Some, None}
 use Rattle.std.specs.declared.option.Option.{Option}
-use Rattle.sat_terms.specs.Limits.{max_var, max_literals}
+use Rattle.sat_terms.specs.Limits.{max_var, max_number, max_literals}
 use Rattle.io_edge.specs.Told.{WhereTold}
 use Rattle.io_edge.specs.Lines.{NoLf}
 use Rattle.io_edge.specs.Reading.{rest_of}
 use Rattle.icnf_reader.specs.Tokens.{Token, CutOff}
 use Rattle.icnf_reader.specs.WordState.{WordState, words_at_start, tokens_left, left_over, last_line, TakesLines}
 use Rattle.icnf_reader.specs.Script.{Whole, Bad, Stopped}
+use Rattle.icnf_reader.specs.Grammar.{has_cards, allowed_by}
 use Rattle.icnf_reader.specs.Outcomes.{Point, Outcome, reads, doing, follow, nothing, put_item, start}
 use Rattle.icnf_reader.specs.declared.reader.Mode.{Mode}
-use Rattle.icnf_reader.specs.declared.reader.Mode.TheVariants.{Start, Kind, Vars, Clauses, Between, InClause, InQuery}
+use Rattle.icnf_reader.specs.declared.reader.Mode.TheVariants.{Start, Kind, Vars, Clauses, Between, InClause, InQuery, Bound, InCard}
 use Rattle.icnf_reader.specs.declared.item.Heads.{Heads}
 use Rattle.icnf_reader.specs.declared.item.Item.{Item}
 use Rattle.icnf_reader.specs.declared.item.Item.TheVariants as item
@@ -35,24 +36,28 @@ given p = p.count - length p.lits
 -- how many literals an item has
 abbrev pub lits_in : Item → ℕ
 lits_in (item.Clause ls) = length ls
+lits_in (item.Card b ls) = length ls
 lits_in (item.Query ls) = length ls
 lits_in i = 0
 
 -- no literal stands outside a statement
 abbrev pub NoneOutside : Mode → List ℕ → Type 0
-NoneOutside (InClause kind) lits = Unit {0}
-NoneOutside InQuery lits = Unit {0}
+NoneOutside (InClause may) lits = Unit {0}
+NoneOutside (InQuery may) lits = Unit {0}
+NoneOutside (InCard may b) lits = Unit {0}
 NoneOutside mode lits = lits ≡ []
 
--- a declared number of variables is in range
+-- a declared number of variables, and a bound, are in range
 abbrev pub IsDeclared : Mode → Type 0
-IsDeclared (Clauses vars) = vars ≤ max_var
+IsDeclared (Clauses heads kind vars) = vars ≤ max_var
+IsDeclared (InCard may b) = b ≤ max_number
 IsDeclared (Start heads) = Unit {0}
 IsDeclared (Kind heads) = Unit {0}
-IsDeclared Vars = Unit {0}
-IsDeclared (Between kind) = Unit {0}
-IsDeclared (InClause kind) = Unit {0}
-IsDeclared InQuery = Unit {0}
+IsDeclared (Vars heads kind) = Unit {0}
+IsDeclared (Between may) = Unit {0}
+IsDeclared (InClause may) = Unit {0}
+IsDeclared (InQuery may) = Unit {0}
+IsDeclared (Bound may) = Unit {0}
 
 -- what holds of each reader
 pub record IsSound (words : WordState) (mode : Mode) (lits : List ℕ) (count : ℕ) (done : Bool) : Type 0 where
@@ -79,16 +84,28 @@ lits_of None = 0
 -- the answer where no word is left and the last line has this number
 abbrev pub end_answer : Mode → ℕ → Result Item Stop
 end_answer (Start heads) last = Err (stop.Bad last HeaderExpected)
-end_answer (Between kind) last = Ok item.End
+end_answer (Between may) last = Ok item.End
 end_answer mode last = Err (stop.Bad last NotClosed)
 
 -- whether the header is not whole yet
 abbrev pub is_before_header : Mode → Bool
 is_before_header (Start heads) = true
 is_before_header (Kind heads) = true
-is_before_header Vars = true
-is_before_header (Clauses vars) = true
+is_before_header (Vars heads kind) = true
+is_before_header (Clauses heads kind vars) = true
 is_before_header mode = false
+
+-- whether a cardinality may come from here on
+abbrev pub takes_cards : Mode → Bool
+takes_cards (Start heads) = has_cards heads
+takes_cards (Kind heads) = has_cards heads
+takes_cards (Vars heads kind) = (allowed_by heads kind).cards
+takes_cards (Clauses heads kind vars) = (allowed_by heads kind).cards
+takes_cards (Between may) = may.cards
+takes_cards (InClause may) = may.cards
+takes_cards (InQuery may) = may.cards
+takes_cards (Bound may) = true
+takes_cards (InCard may b) = true
 
 -- a header
 abbrev pub IsHeaderItem : Item → Type 0
@@ -99,12 +116,37 @@ IsHeaderItem i = ⊥
 abbrev pub HasVars : Item → Type 0
 HasVars (item.Header h) = h.vars ≤ max_var
 HasVars (item.Clause ls) = Unit {0}
+HasVars (item.Card b ls) = Unit {0}
 HasVars (item.Query ls) = Unit {0}
 HasVars item.End = Unit {0}
 
 abbrev pub HaveVars : Option Item → Type 0
 HaveVars (Some i) = HasVars i
 HaveVars None = Unit {0}
+
+-- the bound of a cardinality is in range
+abbrev pub HasBound : Item → Type 0
+HasBound (item.Card b ls) = b ≤ max_number
+HasBound (item.Header h) = Unit {0}
+HasBound (item.Clause ls) = Unit {0}
+HasBound (item.Query ls) = Unit {0}
+HasBound item.End = Unit {0}
+
+abbrev pub HaveBounds : Option Item → Type 0
+HaveBounds (Some i) = HasBound i
+HaveBounds None = Unit {0}
+
+-- no cardinality
+abbrev pub IsNoCard : Item → Type 0
+IsNoCard (item.Card b ls) = ⊥
+IsNoCard (item.Header h) = Unit {0}
+IsNoCard (item.Clause ls) = Unit {0}
+IsNoCard (item.Query ls) = Unit {0}
+IsNoCard item.End = Unit {0}
+
+abbrev pub AreNoCards : Option Item → Type 0
+AreNoCards (Some i) = IsNoCard i
+AreNoCards None = Unit {0}
 
 -- before the header is whole, nothing but it can be given
 abbrev pub GivesHeader : Mode → Result (Option Item) Stop → Type 0

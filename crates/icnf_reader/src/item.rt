@@ -9,19 +9,30 @@ use sat_model::lists::Lits;
 pub enum HeadKind {
     /// `p cnf`, the clauses of DIMACS.
     Cnf,
-    /// `p knf`, clauses and cardinality constraints. No reader gives it yet: none of `Heads` has it.
+    /// `p knf`, clauses and cardinalities.
     Knf,
-    /// `p inccnf`, the clauses and queries of iCNF.
+    /// `p inccnf`, the clauses and queries of iCNF, and cardinalities.
     Inc,
 }
 
-/// The headers that are in the grammar.
+/// The headers that are in the grammar, and with them the statements.
 #[derive(Clone, Copy, Debug, PartialEq, Eq)]
 pub enum Heads {
-    /// `p cnf V C` and `p inccnf`.
+    /// `p cnf V C`, `p knf V C` and `p inccnf`, with cardinalities under the last two.
     All,
+    /// `p cnf V C` and `p inccnf`, without cardinalities: what a program reads whose solver takes none.
+    Clauses,
     /// `p cnf V C` alone.
     CnfOnly,
+}
+
+/// The statements that may follow a header, beside clauses.
+#[derive(Clone, Copy, Debug, PartialEq, Eq)]
+pub struct Allowed {
+    /// Queries, which begin with `a`.
+    pub queries: bool,
+    /// Cardinalities, which begin with `k`.
+    pub cards: bool,
 }
 
 /// A header: its kind, and the numbers of variables and of clauses that it declares. Under `p inccnf` both numbers are 0. No
@@ -43,6 +54,8 @@ pub enum Item {
     Header(Header),
     /// A clause.
     Clause(Lits),
+    /// A cardinality: at least so many places of the list are to hold a true literal. The bound is at most 2^62.
+    Card(u64, Lits),
     /// A query under these assumptions.
     Query(Lits),
     /// The end of an input in which nothing is wrong.

@@ -1,9 +1,13 @@
-//! The items of a source: its header, its clauses, its queries, and its end.
+//! The items of a source: its header, its clauses, its cardinalities, its queries, and its end.
 //!
 //! A reader keeps where in the grammar it stands (`Mode`), the literals of the statement that is open, and the number of all
 //! literals so far. Each word has a meaning at that place (`meaning_of`): it leads on, adds a literal, ends the header or a
 //! statement, or is wrong there. An item is given as soon as its last word was read, so a caller can answer a query before it
 //! reads further.
+//!
+//! Which statements may follow is settled by the header (`Allowed`), and kept in each place behind it. So the meaning of a word
+//! is a function of the place and the word alone, and a cardinality keeps its bound in the place where its literals are read:
+//! the bound is no literal, and is not counted as one.
 //!
 //! What all calls together give is what the grammar says of the whole list of words. These laws are proved beside, over the
 //! function that this reader computes word by word (`specs/Outcomes.antt`), and stand on the functions of grammar.rt.
@@ -13,11 +17,12 @@ ghost use Rattle.std.specs.Io.KnownBytes.{IsAtEnd};
 ghost use Rattle.sat_terms.specs.Limits.{max_var, max_number, max_literals};
 ghost use Rattle.io_edge.specs.Causes.{Rose};
 ghost use Rattle.icnf_reader.specs.Numbers.{plain_place};
-ghost use Rattle.icnf_reader.specs.Outcomes.{doing, kind_place, allows_inc, vars_place, clauses_place, begins_query, in_statement, opened, resting, closed};
-ghost use Rattle.icnf_reader.specs.ReadState.{Takes, ReadAnswers, ReadsOver, read_is_last, IsEndItem, IsHeaderItem, HasVars, HaveVars, GivesHeader, is_before_header, is_item_fault, at_start, given, lits_in, lits_of, end_answer};
+ghost use Rattle.icnf_reader.specs.Grammar.{allowed_by, has_inc, has_cards};
+ghost use Rattle.icnf_reader.specs.Outcomes.{doing, kind_place, vars_place, clauses_place, between_place, bound_place, in_statement, opened, resting, closed};
+ghost use Rattle.icnf_reader.specs.ReadState.{Takes, ReadAnswers, ReadsOver, read_is_last, IsEndItem, IsHeaderItem, HasVars, HaveVars, HasBound, HaveBounds, IsNoCard, AreNoCards, GivesHeader, is_before_header, takes_cards, is_item_fault, at_start, given, lits_in, lits_of, end_answer};
 ghost use Rattle.icnf_reader.specs.WordState.{word_fuel};
 
-use crate::item::{HeadKind, Header, Heads, Item, Stop, Why};
+use crate::item::{Allowed, HeadKind, Header, Heads, Item, Stop, Why};
 use crate::numbers::{LitWord, PlainWord, literal_word, plain_word};
 use crate::words::{WordGot, WordReader};
 use io_edge::outside::Source;
@@ -35,8 +40,14 @@ const INC_HEADER: Header = Header {
     clauses: 0,
 };
 
-// The greatest number of clauses that a header may declare, 2^62.
+// The greatest number of clauses that a header may declare, and the greatest bound of a cardinality: 2^62.
 const MAX_NUMBER: u64 = 4_611_686_018_427_387_904;
+
+// What may follow `p cnf`.
+const CLAUSES_ALONE: Allowed = Allowed {
+    queries: false,
+    cards: false,
+};
 
 // Where in the grammar a reader stands.
 #[derive(Clone, Copy, Debug, PartialEq, Eq)]
@@ -45,16 +56,20 @@ enum Mode {
     Start(Heads),
     // after `p`
     Kind(Heads),
-    // after `p cnf`
-    Vars,
-    // after `p cnf` and the number of variables
-    Clauses(u32),
-    // between two statements, under a header of this kind
-    Between(HeadKind),
+    // after the kind of a header that declares numbers
+    Vars(Heads, HeadKind),
+    // and after the number of variables
+    Clauses(Heads, HeadKind, u32),
+    // between two statements, where these may follow
+    Between(Allowed),
     // in a clause
-    InClause(HeadKind),
-    // in a query, which stands under `p inccnf` alone
-    InQuery,
+    InClause(Allowed),
+    // in a query
+    InQuery(Allowed),
+    // after `k`, where the bound of a cardinality stands
+    Bound(Allowed),
+    // in a cardinality, behind its bound
+    InCard(Allowed, u64),
 }
 
 // What a word does where a reader stands.
@@ -66,8 +81,8 @@ enum Meaning {
     Adds(Lit),
     // it ends the open statement
     Closes,
-    // it ends the header, which is this
-    Heading(Header),
+    // it ends the header, which is this, and these statements may follow
+    Heading(Header, Allowed),
     // it stands where no word of its kind may stand
     Wrong(Why),
 }
@@ -112,16 +127,13 @@ fn meaning_of(mode: Mode, text: &[u8]) -> Meaning
             }
         }
         Mode::Kind(heads) => meaning_of_kind(heads, text),
-        Mode::Vars => meaning_of_vars(text),
-        Mode::Clauses(vars) => meaning_of_clauses(vars, text),
-        Mode::Between(kind) => {
-            if is_query_word(kind, text) {
-                Meaning::Enters(Mode::InQuery)
-            } else {
-                meaning_inside(literal_word(text))
-            }
+        Mode::Vars(heads, kind) => meaning_of_vars(heads, kind, text),
+        Mode::Clauses(heads, kind, vars) => meaning_of_clauses(heads, kind, vars, text),
+        Mode::Between(allowed) => meaning_between(allowed, text),
+        Mode::Bound(allowed) => meaning_of_bound(allowed, text),
+        Mode::InClause(_) | Mode::InQuery(_) | Mode::InCard(_, _) => {
+            meaning_inside(literal_word(text))
         }
-        Mode::InClause(_) | Mode::InQuery => meaning_inside(literal_word(text)),
     }
 }
 
@@ -130,57 +142,103 @@ fn meaning_of_kind(heads: Heads, text: &[u8]) -> Meaning
     ensures { result ≡ kind_place heads text.now }
 {
     if text == b"cnf".as_slice() {
-        Meaning::Enters(Mode::Vars)
-    } else if has_inc(heads) && text == b"inccnf".as_slice() {
-        Meaning::Heading(INC_HEADER)
+        Meaning::Enters(Mode::Vars(heads, HeadKind::Cnf))
+    } else if takes_knf(heads) && text == b"knf".as_slice() {
+        Meaning::Enters(Mode::Vars(heads, HeadKind::Knf))
+    } else if takes_inc(heads) && text == b"inccnf".as_slice() {
+        Meaning::Heading(INC_HEADER, allowed_under(heads, HeadKind::Inc))
     } else {
         Meaning::Wrong(Why::HeaderExpected)
     }
 }
 
 // Whether the header of iCNF is in the grammar.
-fn has_inc(heads: Heads) -> bool
-    ensures { result ≡ allows_inc heads }
+fn takes_inc(heads: Heads) -> bool
+    ensures { result ≡ has_inc heads }
 {
     match heads {
-        Heads::All => true,
+        Heads::All | Heads::Clauses => true,
         Heads::CnfOnly => false,
     }
 }
 
-// What a word does after `p cnf`.
-fn meaning_of_vars(text: &[u8]) -> Meaning
-    ensures { result ≡ vars_place (plain_place max_var text.now) }
+// Whether cardinalities are in the grammar, and their header.
+fn takes_knf(heads: Heads) -> bool
+    ensures { result ≡ has_cards heads }
 {
-    match plain_word(text, MAX_VAR as u64) {
-        PlainWord::Value(vars) => Meaning::Enters(Mode::Clauses(vars as u32)),
-        PlainWord::Large => Meaning::Wrong(Why::OutOfRange),
-        PlainWord::Other => Meaning::Wrong(Why::UnexpectedWord),
+    match heads {
+        Heads::All => true,
+        Heads::Clauses | Heads::CnfOnly => false,
     }
 }
 
-// What a word does after `p cnf` and the number of variables.
-fn meaning_of_clauses(vars: u32, text: &[u8]) -> Meaning
-    ensures { result ≡ clauses_place vars (plain_place max_number text.now) }
-{
-    match plain_word(text, MAX_NUMBER) {
-        PlainWord::Value(clauses) => Meaning::Heading(Header {
-            kind: HeadKind::Cnf,
-            vars,
-            clauses,
-        }),
-        PlainWord::Large => Meaning::Wrong(Why::OutOfRange),
-        PlainWord::Other => Meaning::Wrong(Why::UnexpectedWord),
-    }
-}
-
-// Whether a word begins a query under a header of this kind.
-fn is_query_word(kind: HeadKind, text: &[u8]) -> bool
-    ensures { result ≡ begins_query kind text.now }
+// The statements that may follow a header of this kind.
+fn allowed_under(heads: Heads, kind: HeadKind) -> Allowed
+    ensures { result ≡ allowed_by heads kind }
 {
     match kind {
-        HeadKind::Cnf | HeadKind::Knf => false,
-        HeadKind::Inc => text == b"a".as_slice(),
+        HeadKind::Cnf => CLAUSES_ALONE,
+        HeadKind::Knf => Allowed {
+            queries: false,
+            cards: takes_knf(heads),
+        },
+        HeadKind::Inc => Allowed {
+            queries: true,
+            cards: takes_knf(heads),
+        },
+    }
+}
+
+// What a word does after the kind of a header that declares numbers.
+fn meaning_of_vars(heads: Heads, kind: HeadKind, text: &[u8]) -> Meaning
+    ensures { result ≡ vars_place heads kind (plain_place max_var text.now) }
+{
+    match plain_word(text, MAX_VAR as u64) {
+        PlainWord::Value(vars) => Meaning::Enters(Mode::Clauses(heads, kind, vars as u32)),
+        PlainWord::Large => Meaning::Wrong(Why::OutOfRange),
+        PlainWord::Other => Meaning::Wrong(Why::UnexpectedWord),
+    }
+}
+
+// What a word does after the number of variables.
+fn meaning_of_clauses(heads: Heads, kind: HeadKind, vars: u32, text: &[u8]) -> Meaning
+    ensures { result ≡ clauses_place heads kind vars (plain_place max_number text.now) }
+{
+    match plain_word(text, MAX_NUMBER) {
+        PlainWord::Value(clauses) => Meaning::Heading(
+            Header {
+                kind,
+                vars,
+                clauses,
+            },
+            allowed_under(heads, kind),
+        ),
+        PlainWord::Large => Meaning::Wrong(Why::OutOfRange),
+        PlainWord::Other => Meaning::Wrong(Why::UnexpectedWord),
+    }
+}
+
+// What a word does between two statements: it begins a query or a cardinality where these may follow, or a clause.
+fn meaning_between(allowed: Allowed, text: &[u8]) -> Meaning
+    ensures { result ≡ between_place allowed text.now }
+{
+    if allowed.queries && text == b"a".as_slice() {
+        Meaning::Enters(Mode::InQuery(allowed))
+    } else if allowed.cards && text == b"k".as_slice() {
+        Meaning::Enters(Mode::Bound(allowed))
+    } else {
+        meaning_inside(literal_word(text))
+    }
+}
+
+// What a word does after `k`.
+fn meaning_of_bound(allowed: Allowed, text: &[u8]) -> Meaning
+    ensures { result ≡ bound_place allowed (plain_place max_number text.now) }
+{
+    match plain_word(text, MAX_NUMBER) {
+        PlainWord::Value(bound) => Meaning::Enters(Mode::InCard(allowed, bound)),
+        PlainWord::Large => Meaning::Wrong(Why::OutOfRange),
+        PlainWord::Other => Meaning::Wrong(Why::UnexpectedWord),
     }
 }
 
@@ -201,7 +259,7 @@ fn opened_mode(mode: Mode) -> Mode
     ensures { result ≡ opened mode }
 {
     match mode {
-        Mode::Between(kind) => Mode::InClause(kind),
+        Mode::Between(allowed) => Mode::InClause(allowed),
         other => other,
     }
 }
@@ -211,8 +269,12 @@ fn resting_mode(mode: Mode) -> Mode
     ensures { result ≡ resting mode }
 {
     match mode {
-        Mode::Between(kind) | Mode::InClause(kind) => Mode::Between(kind),
-        _ => Mode::Between(HeadKind::Inc),
+        Mode::Between(allowed)
+        | Mode::InClause(allowed)
+        | Mode::InQuery(allowed)
+        | Mode::Bound(allowed)
+        | Mode::InCard(allowed, _) => Mode::Between(allowed),
+        _ => Mode::Between(CLAUSES_ALONE),
     }
 }
 
@@ -221,7 +283,8 @@ fn closed_item(mode: Mode, lits: Lits) -> Item
     ensures { result ≡ closed mode lits }
 {
     match mode {
-        Mode::InQuery => Item::Query(lits),
+        Mode::InQuery(_) => Item::Query(lits),
+        Mode::InCard(_, bound) => Item::Card(bound, lits),
         _ => Item::Clause(lits),
     }
 }
@@ -266,6 +329,9 @@ impl Reader {
         ensures takes { Takes line self.old.words.text self.old.point self.new.point result }
         ensures header { is_before_header self.old.point.mode ≡ true → GivesHeader self.new.point.mode result }
         ensures vars { IfOk result HaveVars }
+        ensures bound { IfOk result HaveBounds }
+        ensures cards { takes_cards self.old.point.mode ≡ false → takes_cards self.new.point.mode ≡ false }
+        ensures no_card { takes_cards self.old.point.mode ≡ false → IfOk result AreNoCards }
         ensures count { IfOk result (λ item. given self.new.point ≡ given self.old.point + lits_of item) }
         ensures few { given self.new.point ≤ max_literals }
         ensures done { self.new.done ≡ self.old.done }
@@ -295,8 +361,8 @@ impl Reader {
                 self.mode = resting_mode(self.mode);
                 Ok(Some(item))
             }
-            Meaning::Heading(header) => {
-                self.mode = Mode::Between(header.kind);
+            Meaning::Heading(header, allowed) => {
+                self.mode = Mode::Between(allowed);
                 self.lits = Lits::new(self.alloc);
                 Ok(Some(Item::Header(header)))
             }
@@ -306,8 +372,10 @@ impl Reader {
 
     /// The next item, given as soon as its last word was read. `End` and a stop are the last answer. `Bad` names the line of
     /// the first fault and its reason, `End` comes where nothing is wrong, and `ReadFault` only where the source failed in
-    /// this call. The grammar is that of DIMACS (`p cnf V C` and clauses), where `new` allows all headers also that of iCNF
-    /// (`p inccnf`, clauses, and queries that begin with `a`). The query at the end of a `p cnf` text is no item of its own.
+    /// this call. The grammar is that of DIMACS (`p cnf V C` and clauses), and where `new` allows more headers also that of iCNF
+    /// (`p inccnf`, clauses, and queries `a l1 .. ln 0`) and of texts with cardinalities (`p knf V C`, clauses, and `k b l1 .. ln 0`
+    /// with a bound of at most 2^62, which may stand in iCNF too). The query at the end of a `p cnf` or `p knf` text is no item of
+    /// its own.
     ///
     /// The clauses compare what the text still to come says before and after the call. What all calls together give is said by
     /// the grammar over the whole text: see `grammar::law_text_is_said`, `law_text_is_given`, `law_cut_is_said` and `law_cut_is_given`.
@@ -319,6 +387,11 @@ impl Reader {
         // The header is the first item.
         ensures header { is_before_header self.old.point.mode ≡ true → IfOk result IsHeaderItem }
         ensures vars { IfOk result HasVars }
+
+        // The bound of a cardinality is in range, and where `new` allows none no cardinality comes.
+        ensures bound { IfOk result HasBound }
+        ensures cards { takes_cards self.old.point.mode ≡ false → takes_cards self.new.point.mode ≡ false }
+        ensures no_card { takes_cards self.old.point.mode ≡ false → IfOk result IsNoCard }
 
         // The lines that were taken, whatever lines come behind them.
         ensures lines { ReadsOver self.old self.new (S.left source.old) (S.left source.new) result }

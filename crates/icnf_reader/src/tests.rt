@@ -1,4 +1,4 @@
-//! What is read of texts, cut anywhere: items and their literals, each reason at its line, and statements and lines that are
+//! What is read of texts, cut anywhere: items with their bounds and literals, each reason at its line, and statements and lines that are
 //! longer than what lies in place or in the buffer.
 ghost use Rattle.std.specs.Prelude.{◌<◌};
 
@@ -48,6 +48,10 @@ fn items(
                 write!(text, "{kind:?} {vars} {clauses}; ")?;
             }
             Ok(Item::Clause(lits)) => push_lits(&mut text, "clause", &lits)?,
+            Ok(Item::Card(bound, lits)) => {
+                write!(text, "at least {bound} of")?;
+                push_lits(&mut text, "", &lits)?;
+            }
             Ok(Item::Query(lits)) => push_lits(&mut text, "query", &lits)?,
             Ok(Item::End) => text.push_str("end")?,
             Err(Stop::Bad(line, why)) => {
@@ -90,9 +94,8 @@ fn inputs_have_items_and_faults(rt: HostRuntime) -> Result<(), Fail> {
         ("p\ncnf 1 1\n", "line 2: not closed"),
         ("p cnf 2 1\n1 2\n", "Cnf 2 1; line 2: not closed"),
         ("p cnf 3\n", "line 1: not closed"),
-        ("p\n\nknf\n", "line 3: header expected"),
+        ("p\n\nxnf\n", "line 3: header expected"),
         ("p\n", "line 1: not closed"),
-        ("p inccnf\nk 1 1 0\n", "Inc 0 0; line 2: unexpected word"),
         (
             "p inccnf\n1 2\n3\nx 0\n",
             "Inc 0 0; line 4: unexpected word",
@@ -119,9 +122,65 @@ fn inputs_have_items_and_faults(rt: HostRuntime) -> Result<(), Fail> {
 }
 
 #[test]
+fn cardinalities_have_bounds_and_literals(rt: HostRuntime) -> Result<(), Fail> {
+    for (input, want) in [
+        ("p knf 2 1\nk 1 1 2 0\n", "Knf 2 1; at least 1 of 1 2; end"),
+        (
+            "p inccnf\nk 0002\nc 7\n1 -1\n1 0 k 0 0 a 0",
+            "Inc 0 0; at least 2 of 1 -1 1; at least 0 of; query; end",
+        ),
+        (
+            "p knf 3 1\nk\nc 5\n4611686018427387904 3 0\n1 0\n",
+            "Knf 3 1; at least 4611686018427387904 of 3; clause 1; end",
+        ),
+        ("p knf 3 1\n", "Knf 3 1; end"),
+        ("p knf\n4194304 1\n", "line 2: number out of range"),
+        ("p knf -3 1\n", "line 1: unexpected word"),
+        ("p knf 3\n", "line 1: not closed"),
+        ("p cnf 1 1\nk 1 1 0\n", "Cnf 1 1; line 2: unexpected word"),
+        ("p knf 1 1\na 1 0\n", "Knf 1 1; line 2: unexpected word"),
+        ("p inccnf\nk\n-1 1 0\n", "Inc 0 0; line 3: unexpected word"),
+        ("p inccnf\nk x 1 0\n", "Inc 0 0; line 2: unexpected word"),
+        ("p inccnf\nk k 1 0\n", "Inc 0 0; line 2: unexpected word"),
+        ("p inccnf\nk 1\nk 0\n", "Inc 0 0; line 3: unexpected word"),
+        (
+            "p inccnf\nk\n4611686018427387905 1 0\n",
+            "Inc 0 0; line 3: number out of range",
+        ),
+        (
+            "p inccnf\nk 4194304 1\n4194304 0\n",
+            "Inc 0 0; line 3: number out of range",
+        ),
+        ("p inccnf\nk", "Inc 0 0; line 2: not closed"),
+        ("p inccnf\nk 2\n", "Inc 0 0; line 2: not closed"),
+        ("p inccnf\nk 2 1\n\n", "Inc 0 0; line 3: not closed"),
+    ] {
+        for cut in [1usize, 7, 100000] {
+            let got = items(rt.alloc(), Heads::All, input, cut, &[])?;
+            assert_eq!(rt; got.as_str(), want, "{input}");
+        }
+    }
+    Ok(())
+}
+
+#[test]
+fn headers_allow_cardinalities_or_not(rt: HostRuntime) -> Result<(), Fail> {
+    for (input, want) in [
+        ("p inccnf\nk 1 1 0\n", "Inc 0 0; line 2: unexpected word"),
+        ("p\nknf 1 0\n", "line 2: header expected"),
+        ("p cnf 1 0\n1 0\n", "Cnf 1 0; clause 1; end"),
+    ] {
+        let got = items(rt.alloc(), Heads::Clauses, input, 7, &[])?;
+        assert_eq!(rt; got.as_str(), want, "{input}");
+    }
+    Ok(())
+}
+
+#[test]
 fn what_was_read_before_a_fault_is_given(rt: HostRuntime) -> Result<(), Fail> {
     for (heads, want) in [
         (Heads::All, "Inc 0 0; query; read fault"),
+        (Heads::Clauses, "Inc 0 0; query; read fault"),
         (Heads::CnfOnly, "line 1: header expected"),
     ] {
         let got = items(rt.alloc(), heads, "p inccnf\na 0\n1 0\n2 0", 4, &[4])?;

@@ -8,7 +8,7 @@ use Rattle.icnf_reader.specs.WordState.{TakesLines}
 use Rattle.icnf_reader.specs.Grammar.{Statement}
 use Rattle.icnf_reader.specs.Outcomes.{Outcome, reads, start, text_reads, statements_of}
 use Rattle.icnf_reader.specs.ReadState.{ReadState, outcome, over, given}
-use Rattle.icnf_reader.specs.declared.item.Heads.TheVariants.{All}
+use Rattle.icnf_reader.specs.declared.item.Heads.TheVariants.{Clauses}
 use Rattle.icnf_reader.specs.declared.item.Header.{Header}
 use Rattle.icnf_reader.specs.declared.item.Item.{Item}
 use Rattle.icnf_reader.specs.declared.item.Item.TheVariants as item
@@ -32,11 +32,11 @@ pub record IsTold (budget vars : ℕ) (s : State) (script : List Statement) (rep
 pub record TakenTo (front : List Item) (now : ReadState) (before after : List ℕ) : Type 0 where
   pub pieces : List (List ℕ)
   pub taken : TakesLines pieces now.words.lines.ended before after
-  pub leads : (others : List (List ℕ)) (tail : List Token) (last : ℕ) → reads (tokens 0 1 (pieces ++ others) ++ tail) (start All) last ≡ put_items front (over now others tail last)
+  pub leads : (others : List (List ℕ)) (tail : List Token) (last : ℕ) → reads (tokens 0 1 (pieces ++ others) ++ tail) (start Clauses) last ≡ put_items front (over now others tail last)
 
 -- these items were read
 pub record HasRead (front : List Item) (left rest : Option (List ℕ)) (now : ReadState) : Type 0 where
-  pub read : WhereTold left rest (λ before after. text_reads All before ≡ put_items front (outcome now after))
+  pub read : WhereTold left rest (λ before after. text_reads Clauses before ≡ put_items front (outcome now after))
   pub taken : WhereTold left rest (TakenTo front now)
 
 -- how far a run has come: the items that were read behind the header, and the replies that were given

@@ -1,7 +1,8 @@
 -- Good replies grow with the script.
 use Rattle.std.proofs.Common.{◌≡◌, ◌∙◌, sym, ap, refl, arith, subst, ℕ, ◌+◌, ◌<◌, max, List, [], ◌∷◌, ◌++◌, length, length-append, append_assoc, Bool, inl, inr, ⊎_elim}
 use Rattle.std.specs.Prelude.{◌⊎◌}
-use Rattle.icnf_reader.specs.Grammar.{Statement, Clause, Query}
+use Rattle.icnf_reader.specs.Grammar.{Statement, Clause, Card, Query}
+use Rattle.sat_model.specs.declared.constraint.Constraint.TheVariants.{AtLeast}
 use Rattle.solver_api.specs.declared.givens.GivenPart.TheVariants as part
 use Rattle.reply_text.specs.Reply.{Reply, Unsat}
 use Rattle.std.proofs.lemmas.List.{append-nil}
@@ -45,27 +46,34 @@ cut_last (w ∷ xs) x (v ∷ ys) y zs e =
 pub parts_push : (ss : List Statement) (s : Statement) → parts_of (ss ++ s ∷ []) ≡ parts_of ss ++ parts_of (s ∷ [])
 parts_push [] s = refl
 parts_push (Clause c ∷ ss) s = ap (λ ps. part.Clause c ∷ ps) (parts_push ss s)
+parts_push (Card b ls ∷ ss) s = ap (λ ps. part.Rule (AtLeast b ls) ∷ ps) (parts_push ss s)
 parts_push (Query a ∷ ss) s = parts_push ss s
 
 pub greatest_push : (ss : List Statement) (s : Statement) → greatest_in (ss ++ s ∷ []) ≡ max (greatest_in ss) (greatest_in (s ∷ []))
 greatest_push [] (Clause c) = omega arith
+greatest_push [] (Card b ls) = omega arith
 greatest_push [] (Query a) = omega arith
 greatest_push (Clause c ∷ ss) s = let h = greatest_push ss s in omega (arith, h)
+greatest_push (Card b ls ∷ ss) s = let h = greatest_push ss s in omega (arith, h)
 greatest_push (Query a ∷ ss) s = let h = greatest_push ss s in omega (arith, h)
 
 count_push : (ss : List Statement) (s : Statement) → query_count (ss ++ s ∷ []) ≡ query_count ss + query_count (s ∷ [])
 count_push [] (Clause c) = refl
+count_push [] (Card b ls) = refl
 count_push [] (Query a) = refl
 count_push (Clause c ∷ ss) s = count_push ss s
+count_push (Card b ls ∷ ss) s = count_push ss s
 count_push (Query a ∷ ss) s = let h = count_push ss s in omega (arith, h)
 
 count_cut : (above : List Statement) (a : List ℕ) (below : List Statement) → query_count above < query_count (above ++ Query a ∷ below)
 count_cut [] a below = omega arith
 count_cut (Clause c ∷ ss) a below = count_cut ss a below
+count_cut (Card b ls ∷ ss) a below = count_cut ss a below
 count_cut (Query b ∷ ss) a below = let h = count_cut ss a below in omega (arith, h)
 
 abbrev lits_in : Statement → List ℕ
 lits_in (Clause c) = c
+lits_in (Card b ls) = ls
 lits_in (Query b) = b
 
 -- nothing is good for nothing
@@ -137,6 +145,9 @@ text_query check n [] (q ∷ qs) a r e = absurd (omega arith)
 text_query check n (Clause c ∷ ss) qs a r e =
     let z : n + 1 + length (parts_of ss) + length a ≡ n + length (parts_of (Clause c ∷ ss)) + length a = omega arith in
     text_query check (n + 1) ss qs a r e ∙ ap (λ k. texts_from check (n + 1) ss qs ++ printed_reply check k r) z
+text_query check n (Card b ls ∷ ss) qs a r e =
+    let z : n + 1 + length (parts_of ss) + length a ≡ n + length (parts_of (Card b ls ∷ ss)) + length a = omega arith in
+    text_query check (n + 1) ss qs a r e ∙ ap (λ k. texts_from check (n + 1) ss qs ++ printed_reply check k r) z
 text_query check n (Query b ∷ ss) [] a r e = absurd (omega arith)
 text_query check n (Query b ∷ ss) (q ∷ qs) a r e =
     ap (λ t. printed_reply check (n + length b) q ++ t) (text_query check n ss qs a r (omega arith))
@@ -145,5 +156,6 @@ text_query check n (Query b ∷ ss) (q ∷ qs) a r e =
 pub text_clause : (check : Bool) (n : ℕ) (script : List Statement) (replies : List Reply) (c : List ℕ) → texts_from check n (script ++ Clause c ∷ []) replies ≡ texts_from check n script replies
 text_clause check n [] qs c = refl
 text_clause check n (Clause b ∷ ss) qs c = text_clause check (n + 1) ss qs c
+text_clause check n (Card b ls ∷ ss) qs c = text_clause check (n + 1) ss qs c
 text_clause check n (Query b ∷ ss) [] c = refl
 text_clause check n (Query b ∷ ss) (q ∷ qs) c = ap (λ t. printed_reply check (n + length b) q ++ t) (text_clause check n ss qs c)

@@ -16,7 +16,7 @@ use Rattle.icnf_reader.proofs.Left.{told_both, told_then, told_left, lines_then,
 use Rattle.icnf_reader.proofs.Reading.{outcome_at_start, statements_of-append}
 use Rattle.icnf_reader.proofs.Said.{put_items}
 use Rattle.icnf_reader.proofs.Grammars.{law_text_is_said, law_text_is_given, law_cut_is_said}
-use Rattle.icnf_reader.specs.declared.item.Heads.TheVariants.{All}
+use Rattle.icnf_reader.specs.declared.item.Heads.TheVariants.{Clauses}
 use Rattle.icnf_reader.specs.declared.item.HeadKind.{HeadKind}
 use Rattle.icnf_reader.specs.declared.item.HeadKind.TheVariants.{Cnf, Knf, Inc}
 use Rattle.icnf_reader.specs.declared.item.Header.{Header}
@@ -44,8 +44,8 @@ status_push k (s ∷ rs) r = status_push (code_of s) rs r
 
 -- the next item is read
 read_more : (left rest rest' : Option (List ℕ)) (now new : ReadState) (front : List Item) (i : Item)
-    → WhereTold left rest (λ before after. text_reads All before ≡ put_items front (outcome now after)) → WhereTold rest rest' (GivesItem now new i)
-    → WhereTold left rest' (λ before after. text_reads All before ≡ put_items (front ++ i ∷ []) (outcome new after))
+    → WhereTold left rest (λ before after. text_reads Clauses before ≡ put_items front (outcome now after)) → WhereTold rest rest' (GivesItem now new i)
+    → WhereTold left rest' (λ before after. text_reads Clauses before ≡ put_items (front ++ i ∷ []) (outcome new after))
 read_more left rest rest' now new front i told next = told_both left rest rest' (λ x y z p q.
     p ∙ ap (put_items front) q ∙ ap (λ l. record { items = l; ending = (outcome new z).ending }) (sym (append_assoc front (i ∷ []) (outcome new z).items))) told next
 
@@ -55,7 +55,7 @@ taken_more : (left rest rest' : Option (List ℕ)) (now new : ReadState) (front 
 taken_more left rest rest' now new front i stays told next = told_both left rest rest' (λ x y z p q. record {
   pieces = p.pieces ++ q.pieces;
   taken = lines_then p.pieces q.pieces now.words.lines.ended new.words.lines.ended x y z (not_ended now.words.lines.ended new.words.lines.ended stays) p.taken q.taken;
-  leads = λ others tail last. ap (λ ls. reads (tokens 0 1 ls ++ tail) (start All) last) (append_assoc p.pieces q.pieces others) ∙ p.leads (q.pieces ++ others) tail last
+  leads = λ others tail last. ap (λ ls. reads (tokens 0 1 ls ++ tail) (start Clauses) last) (append_assoc p.pieces q.pieces others) ∙ p.leads (q.pieces ++ others) tail last
       ∙ ap (put_items front) (q.leads others tail last)
       ∙ ap (λ l. record { items = l; ending = (over new others tail last).ending }) (sym (append_assoc front (i ∷ []) (over new others tail last).items));
 }) told next
@@ -69,23 +69,23 @@ has_read_more left rest rest' now new front i stays h next lead = record {
 }
 
 -- nothing was read
-pub read_none : (left : Option (List ℕ)) (r : ReadState) → r ≡ at_start All → HasRead [] left (rest_of r.words.lines left) r
+pub read_none : (left : Option (List ℕ)) (r : ReadState) → r ≡ at_start Clauses → HasRead [] left (rest_of r.words.lines left) r
 read_none left r fresh =
     let P : ReadState → Type 0 = λ q. HasRead [] left (rest_of q.words.lines left) q in
     subst P (sym fresh) (record { read = begun left; taken = opened left })
   where
-    begun : (left : Option (List ℕ)) → WhereTold left (rest_of (at_start All).words.lines left) (λ before after. text_reads All before ≡ put_items [] (outcome (at_start All) after))
+    begun : (left : Option (List ℕ)) → WhereTold left (rest_of (at_start Clauses).words.lines left) (λ before after. text_reads Clauses before ≡ put_items [] (outcome (at_start Clauses) after))
     begun None = tt
-    begun (Some bytes) = sym (outcome_at_start All bytes)
+    begun (Some bytes) = sym (outcome_at_start Clauses bytes)
 
-    none_taken : (bytes : List ℕ) → TakenTo [] (at_start All) bytes bytes
+    none_taken : (bytes : List ℕ) → TakenTo [] (at_start Clauses) bytes bytes
     none_taken bytes = record {
       pieces = [];
       taken = record { bytes = refl; whatever = λ e more. refl };
       leads = λ others tail last. refl;
     }
 
-    opened : (left : Option (List ℕ)) → WhereTold left (rest_of (at_start All).words.lines left) (TakenTo [] (at_start All))
+    opened : (left : Option (List ℕ)) → WhereTold left (rest_of (at_start Clauses).words.lines left) (TakenTo [] (at_start Clauses))
     opened None = tt
     opened (Some bytes) = none_taken bytes
 
@@ -199,17 +199,17 @@ is_answered {o} {vars} {s} {s'} {a} {written} {written'} {code} r = let P : ℕ 
     of (Unknown conflicts) = inl refl
 
 -- the bytes say the statements of the items that were read, and end so
-said : (bytes : List ℕ) (now : ReadState) (front : List Item) (rest : List ℕ) (e : Ending) → text_reads All bytes ≡ put_items front (outcome now rest) → outcome now rest ≡ nothing e
-    → Reads All bytes (header_of front).vars (statements_of front ++ query_at_end e (header_of front).kind) e
+said : (bytes : List ℕ) (now : ReadState) (front : List Item) (rest : List ℕ) (e : Ending) → text_reads Clauses bytes ≡ put_items front (outcome now rest) → outcome now rest ≡ nothing e
+    → Reads Clauses bytes (header_of front).vars (statements_of front ++ query_at_end e (header_of front).kind) e
 said bytes now front rest e p q =
-    let whole : text_reads All bytes ≡ record { items = front; ending = e } = p ∙ ap (put_items front) q ∙ ap (λ (l : List Item). let x : Outcome = record { items = l; ending = e } in x) (append-nil front) in
-    law_text_is_said All bytes (header_of front).vars (statements_of front ++ query_at_end e (header_of front).kind) e
+    let whole : text_reads Clauses bytes ≡ record { items = front; ending = e } = p ∙ ap (put_items front) q ∙ ap (λ (l : List Item). let x : Outcome = record { items = l; ending = e } in x) (append-nil front) in
+    law_text_is_said Clauses bytes (header_of front).vars (statements_of front ++ query_at_end e (header_of front).kind) e
     (ap (λ (o : Outcome). (header_of o.items).vars) whole, ap script_of whole, ap (λ (o : Outcome). o.ending) whole)
 
-said_bad : (bytes : List ℕ) (now : ReadState) (front : List Item) (rest : List ℕ) (line : ℕ) (why : Why) → text_reads All bytes ≡ put_items front (outcome now rest) → outcome now rest ≡ nothing (Bad line why)
-    → Reads All bytes (header_of front).vars (statements_of front) (Bad line why)
+said_bad : (bytes : List ℕ) (now : ReadState) (front : List Item) (rest : List ℕ) (line : ℕ) (why : Why) → text_reads Clauses bytes ≡ put_items front (outcome now rest) → outcome now rest ≡ nothing (Bad line why)
+    → Reads Clauses bytes (header_of front).vars (statements_of front) (Bad line why)
 said_bad bytes now front rest line why p q =
-    let P : List Statement → Type 0 = λ ss. Reads All bytes (header_of front).vars ss (Bad line why) in
+    let P : List Statement → Type 0 = λ ss. Reads Clauses bytes (header_of front).vars ss (Bad line why) in
     subst P (append-nil (statements_of front)) (said bytes now front rest (Bad line why) p q)
 
 -- a whole input was read, whose end is no query
@@ -229,7 +229,7 @@ finished o k s code written written' left rest rest' now d last end = (
   script_text o.check (statements_of d.front) d.replies,
   d.printed,
   told_first left rest rest' (λ x y z p q.
-      let R : List Statement → Type 0 = λ ss. Reads All x k.vars ss Whole in
+      let R : List Statement → Type 0 = λ ss. Reads Clauses x k.vars ss Whole in
       record {
         vars = k.vars;
         script = statements_of d.front;
@@ -251,7 +251,7 @@ finished_last o k s s' code code' written written' written'' left rest rest' now
       script_text o.check front d.replies ++ printed_reply o.check (checks s') reply,
       Appends-trans written written' written'' (script_text o.check front d.replies) (printed_reply o.check (checks s') reply) d.printed r.replied.printed,
       told_first left rest rest' (λ x y z p q.
-          let R : List Statement → Type 0 = λ ss. Reads All x k.vars ss Whole in
+          let R : List Statement → Type 0 = λ ss. Reads Clauses x k.vars ss Whole in
           record {
             vars = k.vars;
             script = front ++ Query [] ∷ [];
@@ -275,7 +275,7 @@ begins_last o k s code written written' written'' left rest rest' now d last end
       script_text o.check front d.replies ++ take n whole,
       Appends-trans written written' written'' (script_text o.check front d.replies) (take n whole) d.printed b.replied.printed.1,
       told_first left rest rest' (λ x y z p q.
-          let R : List Statement → Type 0 = λ ss. Reads All x k.vars ss Whole in
+          let R : List Statement → Type 0 = λ ss. Reads Clauses x k.vars ss Whole in
           record {
             vars = k.vars;
             script = front ++ Query [] ∷ [];
@@ -342,17 +342,18 @@ record SaysMore (bytes : List ℕ) (front : List Item) : Type 0 where
   vars : ℕ
   back : List Statement
   ending : Ending
-  reads : Reads All bytes vars (statements_of front ++ back) ending
+  reads : Reads Clauses bytes vars (statements_of front ++ back) ending
   vars_are : (front ≡ []) ⊎ (vars ≡ (header_of front).vars)
 
 head_stays : (front more : List Item) → (front ≡ []) ⊎ ((header_of (front ++ more)).vars ≡ (header_of front).vars)
 head_stays [] more = inl refl
 head_stays (item.Header h ∷ front) more = inr refl
 head_stays (item.Clause c ∷ front) more = inr refl
+head_stays (item.Card b ls ∷ front) more = inr refl
 head_stays (item.Query c ∷ front) more = inr refl
 head_stays (item.End ∷ front) more = inr refl
 
-says_more : (bytes : List ℕ) (now : ReadState) (front : List Item) (rest : List ℕ) → text_reads All bytes ≡ put_items front (outcome now rest) → SaysMore bytes front
+says_more : (bytes : List ℕ) (now : ReadState) (front : List Item) (rest : List ℕ) → text_reads Clauses bytes ≡ put_items front (outcome now rest) → SaysMore bytes front
 says_more bytes now front rest p =
     let o = outcome now rest in
     let all = front ++ o.items in
@@ -361,7 +362,7 @@ says_more bytes now front rest p =
       vars = (header_of all).vars;
       back = back;
       ending = o.ending;
-      reads = law_text_is_said All bytes (header_of all).vars (statements_of front ++ back) o.ending (
+      reads = law_text_is_said Clauses bytes (header_of all).vars (statements_of front ++ back) o.ending (
         ap (λ (x : Outcome). (header_of x.items).vars) p,
         ap script_of p ∙ ap (λ ss. ss ++ query_at_end o.ending (header_of all).kind) (statements_of-append front o.items)
             ∙ append_assoc (statements_of front) (statements_of o.items) (query_at_end o.ending (header_of all).kind),
@@ -420,7 +421,7 @@ begins o k s code written written' left rest now d = begins_whole o (item.Header
 
 -- nothing was read or written
 pub nothing_yet : (o : Options) (left written : Option (List ℕ)) → Prints written written left (Begins o)
-nothing_yet o left written = begins_whole o [] [] written written left (rest_of (at_start All).words.lines left) (at_start All) (read_none left (at_start All) refl) good_start (Appends-nil written)
+nothing_yet o left written = begins_whole o [] [] written written left (rest_of (at_start Clauses).words.lines left) (at_start Clauses) (read_none left (at_start Clauses) refl) good_start (Appends-nil written)
 
 -- the run breaks off in a reply
 pub begins_reply : (o : Options) (k : Header) (s : State) (code : ℕ) (a : List ℕ) (written written' written'' left rest rest' : Option (List ℕ)) (now new : ReadState)
@@ -478,7 +479,7 @@ cut_short o all replies written written' left rest left' now new d good printed 
             no_end = q.no_end;
             vars = (header_of all).vars;
             script = statements_of all;
-            ended = law_cut_is_said All (p.pieces ++ q.pieces) 1 (header_of all).vars (statements_of all)
+            ended = law_cut_is_said Clauses (p.pieces ++ q.pieces) 1 (header_of all).vars (statements_of all)
                 (ap (λ (x : Outcome). (header_of x.items).vars) says, ap script_of says ∙ append-nil (statements_of all), ap (λ (x : Outcome). x.ending) says);
             replies = replies;
             good = good;
@@ -536,10 +537,10 @@ stopped_short o all replies written written' written'' left source source' now n
     cut_short o all replies written written'' left (rest_of now.words.lines source) source' now new d good (subst W (sym (e.same (inl is))) printed) (subst R fault a) n.0 n.1
 
 -- No text is whole and bad.
-whole_or_bad : (bytes : List ℕ) (vars : ℕ) (script : List Statement) → Reads All bytes vars script Whole → GoesWrong bytes → ⊥
+whole_or_bad : (bytes : List ℕ) (vars : ℕ) (script : List Statement) → Reads Clauses bytes vars script Whole → GoesWrong bytes → ⊥
 whole_or_bad bytes vars script whole wrong =
-    let a = (law_text_is_given All bytes vars script Whole whole).2 in
-    let b = (law_text_is_given All bytes wrong.vars wrong.script (Bad wrong.line wrong.why) wrong.reads).2 in
+    let a = (law_text_is_given Clauses bytes vars script Whole whole).2 in
+    let b = (law_text_is_given Clauses bytes wrong.vars wrong.script (Bad wrong.line wrong.why) wrong.reads).2 in
     differ (sym a ∙ b)
   where
     differ : {line : ℕ} {why : Why} → Whole ≡ Bad line why → ⊥

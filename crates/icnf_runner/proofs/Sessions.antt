@@ -6,7 +6,7 @@ use Rattle.std.proofs.lemmas.Bool.{or_left, or_right, eq-eqb, false≢true}
 use Rattle.std.proofs.lemmas.List.{append-nil, length-replicate}
 use Rattle.std.proofs.lemmas.List.Elements.{Contains-push_cases}
 use Rattle.sat_terms.specs.Answer.{greatest_var, IsModel, IsCore}
-use Rattle.icnf_reader.specs.Grammar.{Statement, Clause, Query}
+use Rattle.icnf_reader.specs.Grammar.{Statement, Clause, Card, Query}
 use Rattle.solver_api.specs.Given.{GivenTrue}
 use Rattle.solver_api.specs.Steps.{State, Step, unused, model_of, core_of as shown_core}
 use Rattle.solver_api.specs.declared.calls.Outcome.TheVariants as outcomes
@@ -69,6 +69,7 @@ stands_unused s e = record {
 
 abbrev lits_of : Statement → List ℕ
 lits_of (Clause c) = c
+lits_of (Card b ls) = ls
 lits_of (Query a) = a
 
 -- a clause was added

@@ -2,28 +2,32 @@
 use Rattle.std.specs.Prelude.{◌≡◌, ◌⊎◌, ℕ, ◌+◌, ◌<◌, max, List, [], ◌∷◌, ◌++◌, length, Contains}
 use Rattle.sat_terms.specs.Limits.{max_number}
 use Rattle.sat_terms.specs.Answer.{greatest_var, IsModel, IsCore}
-use Rattle.icnf_reader.specs.Grammar.{Statement, Clause, Query}
+use Rattle.icnf_reader.specs.Grammar.{Statement, Clause, Card, Query}
+use Rattle.sat_model.specs.declared.constraint.Constraint.TheVariants.{AtLeast}
 use Rattle.solver_api.specs.declared.givens.GivenPart.{GivenPart}
 use Rattle.solver_api.specs.declared.givens.GivenPart.TheVariants as part
 use Rattle.solver_api.specs.Given.{GivenTrue}
 use Rattle.reply_text.specs.Reply.{Reply, Sat, Unsat, Unknown}
 
--- the parts that statements give: their clauses
+-- the parts that statements give: their clauses and cardinalities
 abbrev pub parts_of : List Statement → List GivenPart
 parts_of [] = []
 parts_of (Clause c ∷ ss) = part.Clause c ∷ parts_of ss
+parts_of (Card b ls ∷ ss) = part.Rule (AtLeast b ls) ∷ parts_of ss
 parts_of (Query a ∷ ss) = parts_of ss
 
 -- the greatest variable in statements, 0 if there is none
 abbrev pub greatest_in : List Statement → ℕ
 greatest_in [] = 0
 greatest_in (Clause c ∷ ss) = max (greatest_var c) (greatest_in ss)
+greatest_in (Card b ls ∷ ss) = max (greatest_var ls) (greatest_in ss)
 greatest_in (Query a ∷ ss) = max (greatest_var a) (greatest_in ss)
 
 -- how many of the statements are queries
 abbrev pub query_count : List Statement → ℕ
 query_count [] = 0
 query_count (Clause c ∷ ss) = query_count ss
+query_count (Card b ls ∷ ss) = query_count ss
 query_count (Query a ∷ ss) = 1 + query_count ss
 
 -- A good reply to the query of these assumptions below these statements, where so many variables are declared: a model of the

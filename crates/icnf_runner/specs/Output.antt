@@ -5,10 +5,10 @@ use Rattle.std.specs.Fmt.{decimal}
 use Rattle.std.specs.Io.KnownBytes.{Appends}
 use Rattle.io_edge.specs.Told.{WhereTold}
 use Rattle.io_edge.specs.Lines.{NoLf}
-use Rattle.icnf_reader.specs.declared.item.Heads.TheVariants.{All}
+use Rattle.icnf_reader.specs.declared.item.Heads.TheVariants.{Clauses}
 use Rattle.icnf_reader.specs.declared.item.Why.{Why}
 use Rattle.icnf_reader.specs.Reasons.{why_text}
-use Rattle.icnf_reader.specs.Grammar.{Statement, Clause, Query}
+use Rattle.icnf_reader.specs.Grammar.{Statement, Clause, Card, Query}
 use Rattle.icnf_reader.specs.Script.{Ending, Whole, Bad, Reads, EndedIn}
 use Rattle.icnf_reader.specs.WordState.{TakesLines}
 use Rattle.reply_text.specs.Reply.{Reply, Sat, Unsat, Unknown, code_of}
@@ -31,14 +31,15 @@ check_line true count (Unsat core) = []
 check_line true count (Unknown conflicts) = []
 check_line false count reply = []
 
--- what is printed for a reply below so many clauses and assumptions
+-- what is printed for a reply below so many parts and assumptions
 abbrev pub printed_reply : Bool → ℕ → Reply → List ℕ
 printed_reply check count reply = reply_text reply ++ check_line check count reply
 
--- what is printed for the replies to the queries of a script, of which the first stands below so many clauses
+-- what is printed for the replies to the queries of a script, of which the first stands below so many parts
 abbrev pub texts_from : Bool → ℕ → List Statement → List Reply → List ℕ
 texts_from check above [] replies = []
 texts_from check above (Clause c ∷ ss) replies = texts_from check (above + 1) ss replies
+texts_from check above (Card b ls ∷ ss) replies = texts_from check (above + 1) ss replies
 texts_from check above (Query a ∷ ss) [] = []
 texts_from check above (Query a ∷ ss) (r ∷ rs) = printed_reply check (above + length a) r ++ texts_from check above ss rs
 
@@ -63,7 +64,7 @@ pub record Answers (o : Options) (code : ℕ) (bytes text : List ℕ) : Type 0 w
   pub vars : ℕ
   pub script : List Statement
   pub replies : List Reply
-  pub reads : Reads All bytes vars script Whole
+  pub reads : Reads Clauses bytes vars script Whole
   pub good : GoodReplies o.conflicts vars script replies
   pub printed : text ≡ script_text o.check script replies
   pub status : code ≡ status_after 0 replies
@@ -74,7 +75,7 @@ pub record GoesWrong (bytes : List ℕ) : Type 0 where
   pub script : List Statement
   pub line : ℕ
   pub why : Why
-  pub reads : Reads All bytes vars script (Bad line why)
+  pub reads : Reads Clauses bytes vars script (Bad line why)
 
 -- the bytes go wrong, and the text is that of good replies to every query before, and then the line that names the place
 pub record Refuses (o : Options) (bytes text : List ℕ) : Type 0 where
@@ -83,7 +84,7 @@ pub record Refuses (o : Options) (bytes text : List ℕ) : Type 0 where
   pub replies : List Reply
   pub line : ℕ
   pub why : Why
-  pub reads : Reads All bytes vars script (Bad line why)
+  pub reads : Reads Clauses bytes vars script (Bad line why)
   pub good : GoodReplies o.conflicts vars script replies
   pub printed : text ≡ script_text o.check script replies ++ closing_line line why
 
@@ -92,7 +93,7 @@ pub record Begins (o : Options) (bytes text : List ℕ) : Type 0 where
   pub vars : ℕ
   pub script : List Statement
   pub ending : Ending
-  pub reads : Reads All bytes vars script ending
+  pub reads : Reads Clauses bytes vars script ending
   pub front : List Statement
   pub back : List Statement
   pub cut : script ≡ front ++ back
@@ -112,7 +113,7 @@ pub record IsCutShort (o : Options) (text bytes rest : List ℕ) : Type 0 where
   pub no_end : NoLf part
   pub vars : ℕ
   pub script : List Statement
-  pub ended : EndedIn All pieces vars script
+  pub ended : EndedIn Clauses pieces vars script
   pub replies : List Reply
   pub good : GoodReplies o.conflicts vars script replies
   pub printed : text ≡ script_text o.check script replies

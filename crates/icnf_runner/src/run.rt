@@ -111,7 +111,7 @@ fn run_input<S: Source, K: Sink>(
     ensures no_read_fault { result.code ≢ 3 → S.faults source.new ≡ S.faults source.old }
     ensures no_write_fault { result.code ≢ 4 → K.faults sink.new ≡ K.faults sink.old }
 {
-    let Ok(mut reader) = Reader::new(alloc, Heads::All) else {
+    let Ok(mut reader) = Reader::new(alloc, Heads::Clauses) else {
         return NO_MEMORY;
     };
     let Ok(mut solver) = Solver::new(alloc) else {
@@ -130,6 +130,7 @@ fn run_input<S: Source, K: Sink>(
                 Ok(()) => {}
                 Err(_) => return NO_MEMORY,
             },
+            Ok(Item::Card(_, _)) => unreachable!(),
             Ok(Item::Query(lits)) => {
                 match give_reply(&mut solver, lits.as_slice(), options, header.vars, sink) {
                     Ok(last) => status = last,

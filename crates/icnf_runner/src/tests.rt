@@ -64,6 +64,7 @@ fn inputs_are_answered_however_they_are_cut(rt: HostRuntime) -> Result<(), Fail>
             "c refused at line 2: unexpected word\n",
             1,
         ),
+        ("p knf 1 0\n", "c refused at line 1: header expected\n", 1),
         (
             "p inccnf\n1 0\na 0\n4194304 0\n",
             "s SATISFIABLE\nv 1 0\nc refused at line 4: number out of range\n",

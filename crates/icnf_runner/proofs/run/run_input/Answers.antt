@@ -3,7 +3,7 @@ use Rattle.std.proofs.lemmas.Bool.{false≢true}
 use Rattle.std.proofs.KnownBytes.{Appends-nil}
 use Rattle.sat_terms.specs.Limits.{max_var}
 use Rattle.io_edge.specs.Reading.{rest_of}
-use Rattle.icnf_reader.specs.ReadState.{ReadState, ReadAnswers, ReadsOver, read_is_last, is_item_fault, lits_in, given, HasVars, IsEndItem}
+use Rattle.icnf_reader.specs.ReadState.{ReadState, takes_cards, ReadAnswers, ReadsOver, read_is_last, is_item_fault, lits_in, given, HasVars, IsEndItem}
 use Rattle.icnf_reader.specs.declared.item.Item.{Item}
 use Rattle.icnf_reader.specs.declared.item.Item.TheVariants as item
 use Rattle.icnf_reader.specs.declared.item.Stop.{Stop}
@@ -78,6 +78,7 @@ loop-lits-init g c =
           c.in-Ok-new.ensures.unused (ap (λ r. given r.point) fresh) (read_none (left c.args.source.now) c.in-Ok.reader fresh) (subst W c.in-Ok-Header.field-0-is c.in-Ok-Header.ensures.answer) (subst V c.in-Ok-Header.field-0-is c.in-Ok-Header.ensures.lines)
           c.next.ensures.stays (subst N c.in-Ok-Header.field-0-is c.in-Ok-Header.ensures.count);
       going = c.next.ensures.done ∙ last;
+      no_cards = c.next.ensures.cards (ap (λ r. takes_cards r.point.mode) fresh);
       read = c.next.ensures.no_fault (ap is_item_fault c.in-Ok-Header.is);
       wrote = refl;
       at_end = λ is. ends_at left _ _ (λ x. absurd (false≢true (sym (ap (λ r. r.words.lines.ended) fresh) ∙ x))) c.next.ensures.unread (c.next.ensures.at_end is);
@@ -97,6 +98,7 @@ loop-lits-preserved-in-Ok-Header-next g c =
     record {
       come = come_again c.args.options c.in-Ok-Header.header (state c.loop-lits.solver) _ arm.field-0-0 _ _ _ _ _ old next.new.self i.come (subst W arm.field-0-is arm.ensures.answer) (subst V arm.field-0-is arm.ensures.lines) next.ensures.stays (subst N arm.field-0-is arm.ensures.count);
       going = next.ensures.done ∙ last;
+      no_cards = next.ensures.cards i.no_cards;
       read = next.ensures.no_fault (ap is_item_fault arm.is) ∙ i.read;
       wrote = i.wrote;
       at_end = λ is. ends_at left _ _ i.at_end next.ensures.unread (next.ensures.at_end is);
@@ -119,6 +121,7 @@ loop-lits-preserved-in-Ok-Clause g c =
     record {
       come = come_clause c.args.options c.in-Ok-Header.header (state c.loop-lits.solver) (state c.add_clause.new.solver) _ arm.lits _ _ _ _ _ old next.new.self i.come (subst W arm.field-0-is arm.ensures.answer) (subst V arm.field-0-is arm.ensures.lines) next.ensures.stays (subst N arm.field-0-is arm.ensures.count) c.in-Ok-add_clause.ensures;
       going = next.ensures.done ∙ last;
+      no_cards = next.ensures.cards i.no_cards;
       read = next.ensures.no_fault (ap is_item_fault arm.is) ∙ i.read;
       wrote = i.wrote;
       at_end = λ is. ends_at left _ _ i.at_end next.ensures.unread (next.ensures.at_end is);
@@ -165,6 +168,7 @@ loop-lits-preserved g c =
       come = come_query c.args.options c.in-Ok-Header.header (state c.loop-lits.solver) (state c.give_reply.new.solver) _ c.in-Ok-give_reply.last.code arm.lits _ _ _ _ _ _ old next.new.self i.come (subst W arm.field-0-is arm.ensures.answer) (subst V arm.field-0-is arm.ensures.lines) next.ensures.stays
           (subst N arm.field-0-is arm.ensures.count) (subst H c.as_slice.ensures c.in-Ok-give_reply.ensures.ok);
       going = next.ensures.done ∙ last;
+      no_cards = next.ensures.cards i.no_cards;
       read = next.ensures.no_fault (ap is_item_fault arm.is) ∙ i.read;
       wrote = c.in-Ok-give_reply.ensures.kept refl ∙ i.wrote;
       at_end = λ is. ends_at left _ _ i.at_end next.ensures.unread (next.ensures.at_end is);

@@ -4,7 +4,7 @@ use Rattle.io_edge.specs.Reading.{rest_of}
 use Rattle.icnf_reader.specs.declared.item.Item.{Item}
 use Rattle.icnf_reader.specs.declared.words.WordGot.{WordGot}
 use Rattle.icnf_reader.specs.WordState.{WordAnswers, word_is_last, is_word_fault, word_fuel}
-use Rattle.icnf_reader.specs.ReadState.{ReadState, SameOutcome, LeadsOver, Takes, ReadAnswers, ReadsOver, given, lits_of, is_before_header, GivesHeader}
+use Rattle.icnf_reader.specs.ReadState.{ReadState, SameOutcome, takes_cards, LeadsOver, Takes, ReadAnswers, ReadsOver, given, lits_of, is_before_header, GivesHeader}
 use Rattle.icnf_reader.specs.Outcomes.{Point}
 use Rattle.icnf_reader.proofs.Left.{ended_on}
 use Rattle.icnf_reader.proofs.Reading.{turn_item, turn_on, turn_over, item_over, stop_answers, stop_over, err_last, answer_done, over_done, end_told}
@@ -68,6 +68,7 @@ loop-line-preserved g c =
       kept = c.next.ensures.no_fault (ap is_word_fault c.in-Ok-Word.is) ∙ c.loop-line.invariant.kept;
       header = λ before. let G : Option Item → Type 0 = λ i. GivesHeader c.take_word.new.self.point.mode (Ok i) in
           subst G c.in-None.is (c.in_ok-item-in-Ok-Word.ensures.header (ap (λ s. is_before_header s.point.mode) c.self-in-loop-line.view_is ∙ c.loop-line.invariant.header before));
+      cards = λ none. c.take_word.ensures.cards (ap (λ s. takes_cards s.point.mode) c.self-in-loop-line.view_is ∙ c.loop-line.invariant.cards none);
       fuel = omega (arith, c.next.ensures.progress word, c.loop-line.invariant.fuel, ap (λ s. word_fuel s.words) c.self-in-loop-line.view_is, ap word_fuel same);
       unread = λ is. let u = c.loop-line.invariant.unread is in let e = ap (λ s. s.words.lines.ended) c.self-in-loop-line.view_is ∙ u.1 in
           (c.next.ensures.unread e ∙ u.0, ap (λ w. w.lines.ended) same ∙ c.next.ensures.stays e);

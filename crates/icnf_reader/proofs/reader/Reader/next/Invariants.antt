@@ -3,7 +3,7 @@ use Rattle.std.specs.Io.KnownBytes.{IsAtEnd}
 use Rattle.io_edge.specs.Reading.{rest_of}
 use Rattle.io_edge.specs.Told.{WhereTold}
 use Rattle.icnf_reader.specs.WordState.{word_fuel}
-use Rattle.icnf_reader.specs.ReadState.{SameOutcome, LeadsOver, given, is_before_header}
+use Rattle.icnf_reader.specs.ReadState.{SameOutcome, LeadsOver, given, is_before_header, takes_cards}
 use Rattle.icnf_reader.proofs.reader.Reader.next.Given as goal
 
 abbrev pub invariant-loop-line : goal.invariant-loop-line
@@ -18,6 +18,7 @@ invariant-loop-line g l =
       given : given l.self.point ≡ given l.fn.self.point;
       kept : faults l.source ≡ faults l.fn.source;
       header : is_before_header l.fn.self.point.mode ≡ true → is_before_header l.self.point.mode ≡ true;
+      cards : takes_cards l.fn.self.point.mode ≡ false → takes_cards l.self.point.mode ≡ false;
       fuel : word_fuel l.self.words ≤ word_fuel l.fn.self.words;
       unread : l.fn.self.words.lines.ended ≡ true → (l.source ≡ l.fn.source) × (l.self.words.lines.ended ≡ true);
       at_end : l.self.words.lines.ended ≡ true → (l.fn.self.words.lines.ended ≡ true) ⊎ IsAtEnd (left l.source);
