@@ -1,5 +1,5 @@
-//! What is read of texts, cut anywhere: items with their bounds and literals, each reason at its line, and statements and lines that are
-//! longer than what lies in place or in the buffer.
+//! What is read of texts, cut anywhere: items with their bounds and literals, each reason at its line, and statements and lines that
+//! are longer than what lies in place or in the buffer.
 ghost use Rattle.std.specs.Prelude.{◌<◌};
 
 use crate::item::{Heads, Item, Stop, Why};

@@ -2,7 +2,8 @@
 //!
 //! The words of the command line are read first, and where they are not accepted nothing else is. Then the items of the input come
 //! one by one: a clause is given to the solver, a query is solved and its reply is written before more is read, and the end of a
-//! `p cnf` input is one more query. A run is broken off at the first fault of its source or sink and where memory is wanted; else it
+//! `p cnf` input is one more query. The solver takes no cardinalities yet, so the headers are those without them (`Heads::Clauses`):
+//! `p knf` and `k` are refused like other words that are not in the grammar. A run is broken off at the first fault of its source or sink and where memory is wanted; else it
 //! ends at the end of the input, or at its first bad line, which the closing line names. Texts are written as they come, and take no
 //! memory.
 ghost use Rattle.std.specs.Prelude.{◌≡◌, ◌≢◌, ◌≤◌, ◌<◌, ◌⊎◌, ◌↔◌, true, false, ℕ, List, [], Some, OnOk, OnErr, IfSome, IfOk, map, string_bytes, ◌++◌, codes};
@@ -111,6 +112,7 @@ fn run_input<S: Source, K: Sink>(
     ensures no_read_fault { result.code ≢ 3 → S.faults source.new ≡ S.faults source.old }
     ensures no_write_fault { result.code ≢ 4 → K.faults sink.new ≡ K.faults sink.old }
 {
+    // The solver takes no cardinalities, and from these headers none comes.
     let Ok(mut reader) = Reader::new(alloc, Heads::Clauses) else {
         return NO_MEMORY;
     };
