@@ -3,9 +3,10 @@
 //! The words of the command line are read first, and where they are not accepted nothing else is. Then the items of the input come
 //! one by one: a clause is given to the solver, a query is solved and its reply is written before more is read, and the end of a
 //! `p cnf` input is one more query. The solver takes no cardinalities yet, so the headers are those without them (`Heads::Clauses`):
-//! `p knf` and `k` are refused like other words that are not in the grammar. A run is broken off at the first fault of its source or sink and where memory is wanted; else it
-//! ends at the end of the input, or at its first bad line, which the closing line names. Texts are written as they come, and take no
-//! memory.
+//! `p knf` and `k` are refused like other words that are not in the grammar.
+//!
+//! A run is broken off at the first fault of its source or sink and where memory is wanted; else it ends at the end of the input, or
+//! at its first bad line, which the closing line names. Texts are written as they come, and take no memory.
 ghost use Rattle.std.specs.Prelude.{◌≡◌, ◌≢◌, ◌≤◌, ◌<◌, ◌⊎◌, ◌↔◌, true, false, ℕ, List, [], Some, OnOk, OnErr, IfSome, IfOk, map, string_bytes, ◌++◌, codes};
 ghost use Rattle.std.specs.Io.KnownBytes.{Appends, IsAtEnd};
 ghost use Rattle.sat_terms.specs.Limits.{max_var, max_literals};
