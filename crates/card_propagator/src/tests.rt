@@ -346,14 +346,14 @@ fn scene_of_three(alloc: Global) -> Result<Scene, Fail>
 fn scene_of_kept(alloc: Global) -> Result<Scene, Fail>
     ensures { IfOk result (λ scene. scene.desk ≡ kept_by) }
 {
-    let one = Lit::new(1).ok_or("no literal")?;
+    let fallen = Lit::new(-1).ok_or("no literal")?;
     let two = Lit::new(2).ok_or("no literal")?;
     let three = Lit::new(3).ok_or("no literal")?;
     let mut scene = scene_of_three(alloc)?;
     if !scene.open() {
         return Err("no level")?;
     }
-    if !scene.tell(one.neg(), true) {
+    if !scene.tell(fallen, true) {
         return Err("the first has a value")?;
     }
     if !scene.tell(two, false) {
@@ -369,20 +369,20 @@ fn scene_of_kept(alloc: Global) -> Result<Scene, Fail>
 fn scene_of_broken(alloc: Global) -> Result<Scene, Fail>
     ensures { IfOk result (λ scene. scene.desk ≡ broken_by) }
 {
-    let one = Lit::new(1).ok_or("no literal")?;
-    let two = Lit::new(2).ok_or("no literal")?;
+    let first = Lit::new(-1).ok_or("no literal")?;
+    let second = Lit::new(-2).ok_or("no literal")?;
     let three = Lit::new(3).ok_or("no literal")?;
     let mut scene = scene_of_three(alloc)?;
     if !scene.open() {
         return Err("no level")?;
     }
-    if !scene.tell(one.neg(), true) {
+    if !scene.tell(first, true) {
         return Err("the first has a value")?;
     }
     if !scene.open() {
         return Err("no level")?;
     }
-    if !scene.tell(two.neg(), true) {
+    if !scene.tell(second, true) {
         return Err("the second has a value")?;
     }
     if !scene.tell(three, false) {
