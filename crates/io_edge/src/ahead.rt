@@ -5,6 +5,7 @@ ghost use Rattle.io_edge.specs.Causes.{HasCause};
 ghost use Rattle.io_edge.specs.Lines.{NoLf};
 
 use crate::outside::{Failed, Source};
+use memchr::memchr;
 use sat_model::memory::Memory;
 use std::alloc::Global;
 use std::marker::Model;
@@ -40,7 +41,7 @@ fn find_lf(bytes: &[u8]) -> Option<usize>
     ensures first { IfSome result (λ i. NoLf (take i bytes.now)) }
     ensures none { IfNone result (NoLf bytes.now) }
 {
-    bytes.iter().position(|b| *b == b'\n')
+    memchr(b'\n', bytes)
 }
 
 impl Ahead {
