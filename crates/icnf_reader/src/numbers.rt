@@ -3,10 +3,9 @@
 //! A word is told in two places: where a literal may stand (`literal_word`), and where a number without a sign may stand
 //! (`plain_word`). Leading zeros are allowed, and a number of any length is told apart from one in range: its value is stopped at
 //! the first number that is too large, so it fits 64 bits.
-ghost use Rattle.std.specs.Prelude.{◌≡◌, ◌≤◌, ◌+◌, if◌then◌else◌, min, true};
-ghost use Rattle.std.specs.List.{list_all};
+ghost use Rattle.std.specs.Prelude.{◌≡◌, ◌≤◌, ◌+◌, if◌then◌else◌, min, true, false, IfSome, IfNone};
 ghost use Rattle.sat_terms.specs.Limits.{max_number};
-ghost use Rattle.icnf_reader.specs.Numbers.{place_of, plain_place, negative_place, unsigned_place, are_digits, number_from, is_digit, IsAtMost};
+ghost use Rattle.icnf_reader.specs.Numbers.{place_of, plain_place, negative_place, unsigned_place, are_digits, is_digit, number_from, IsAtMost};
 
 use sat_model::literal::Lit;
 
@@ -58,10 +57,9 @@ pub fn plain_word(text: &[u8], max: u64) -> PlainWord
     ensures place { result ≡ plain_place max text.now }
     ensures most { IsAtMost max result }
 {
-    if !all_digits(text) {
+    let Some(value) = number_of(text, max + 1) else {
         return PlainWord::Other;
-    }
-    let value = number_of(text, max + 1);
+    };
     if value > max {
         PlainWord::Large
     } else {
@@ -74,10 +72,9 @@ pub fn plain_word(text: &[u8], max: u64) -> PlainWord
 fn signed_word(digits: &[u8], negative: bool) -> LitWord
     ensures { result ≡ (if negative then negative_place digits.now else unsigned_place digits.now) }
 {
-    if !all_digits(digits) {
+    let Some(value) = number_of(digits, 4_194_304) else {
         return LitWord::Other;
-    }
-    let value = number_of(digits, 4_194_304);
+    };
     if value == 0 {
         return if negative {
             LitWord::Other
@@ -92,35 +89,32 @@ fn signed_word(digits: &[u8], negative: bool) -> LitWord
     }
 }
 
-// Whether these are digits.
-fn only_digits(bytes: &[u8]) -> bool
-    ensures { result ≡ list_all is_digit bytes.now }
+// Whether a byte is a digit.
+fn digit(b: u8) -> bool
+    ensures { result ≡ is_digit b }
 {
-    bytes.iter().all(|b| *b >= b'0' && *b <= b'9')
+    b >= b'0' && b <= b'9'
 }
 
-// Whether these are one or more digits.
-fn all_digits(bytes: &[u8]) -> bool
-    ensures { result ≡ are_digits bytes.now }
-{
-    match bytes {
-        [] => false,
-        _ => only_digits(bytes),
-    }
-}
-
-// The number that digits write, or `cap` where it is greater.
-fn number_of(digits: &[u8], cap: u64) -> u64
-    requires digits { list_all is_digit digits.now ≡ true }
+// The number that these bytes write, or `cap` where it is greater, if they are one or more digits. Each byte is looked at once.
+fn number_of(bytes: &[u8], cap: u64) -> Option<u64>
     requires cap { cap ≤ max_number + 1 }
-    ensures { result ≡ min (number_from 0 digits.now) cap }
+    ensures digits { IfSome result (λ _. are_digits bytes.now ≡ true) }
+    ensures value { IfSome result (λ value. value ≡ min (number_from 0 bytes.now) cap) }
+    ensures none { IfNone result (are_digits bytes.now ≡ false) }
 {
+    if bytes.is_empty() {
+        return None;
+    }
     let mut n: u64 = 0;
-    for b in digits {
+    for b in bytes {
+        if !digit(*b) {
+            return None;
+        }
         n = n
             .saturating_mul(10)
             .saturating_add((*b - b'0') as u64)
             .min(cap);
     }
-    n
+    Some(n)
 }
