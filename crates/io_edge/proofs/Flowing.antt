@@ -77,6 +77,15 @@ last_of_line : (prefix : List ℕ) (number : ℤ) (bytes led all line : List ℕ
 last_of_line prefix number bytes led all line count rest full is_led is_all is_line =
     rw (eq-eqb count 19 full, is_line, is_all, is_led) (simp append_assoc)
 
+-- the line is full, and waits
+pub takes_full : (w : Option (List ℕ)) (prefix : List ℕ) (number : ℤ) (bytes led all line : List ℕ) (count : ℕ) → count ≡ 19 → led ≡ bytes ++ lead prefix count → all ≡ led ++ signed_decimal number → line ≡ all ++ 10 ∷ []
+    → TakesNumber prefix number (record { bytes = bytes; count = count }) (record { bytes = line; count = 0 }) w w
+takes_full w prefix number bytes led all line count full is_led is_all is_line = record {
+  text = [];
+  wrote = Appends-nil w;
+  same = λ rest. last_of_line prefix number bytes led all line count rest full is_led is_all is_line;
+}
+
 -- the line is full, and was written
 pub takes_last : (w w' : Option (List ℕ)) (prefix : List ℕ) (number : ℤ) (bytes led all line : List ℕ) (count : ℕ) → count ≡ 19 → led ≡ bytes ++ lead prefix count → all ≡ led ++ signed_decimal number → line ≡ all ++ 10 ∷ []
     → Appends w w' line → TakesNumber prefix number (record { bytes = bytes; count = count }) (record { bytes = []; count = 0 }) w w'

@@ -1,4 +1,4 @@
-//! A buffer of a fixed size, in which a line of text is put together without taking memory.
+//! A buffer of a fixed size, in which lines of text are put together without taking memory.
 //!
 //! Contracts see it as the list of its bytes. What is pushed has to fit: each call says how much room it needs, and nothing is
 //! tested when it runs.
@@ -8,7 +8,7 @@ ghost use Rattle.std.specs.Fmt.{decimal, signed_decimal};
 use std::marker::Model;
 
 /// The most bytes of a buffer.
-pub const ROOM: usize = 1024;
+pub const ROOM: usize = 4096;
 
 /// A list of at most `ROOM` bytes.
 #[derive(Drop)]
@@ -26,7 +26,7 @@ impl Model for Buffer {
 
     ghost view = { λ s. take s.len s.bytes };
 
-    ghost invariant = { λ s. s.len ≤ 1024 };
+    ghost invariant = { λ s. s.len ≤ 4096 };
 }
 
 // The digits of a number stand at the end of a field of twenty bytes, from the answered place on.
@@ -61,6 +61,13 @@ impl Buffer {
         ensures { result.now ≡ self.now }
     {
         &self.bytes[..self.len]
+    }
+
+    /// How many bytes there are.
+    pub fn len(&self) -> usize
+        ensures { result ≡ length self.now }
+    {
+        self.len
     }
 
     /// Takes all bytes out.

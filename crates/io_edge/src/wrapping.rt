@@ -1,10 +1,11 @@
 //! Lists of numbers, written in lines of twenty.
 //!
-//! The numbers come one by one, and stand on an open line until it has twenty; then the line is written, and the next one is
-//! begun. So a list of any length is written without a text of its size, and no memory is taken. A 0 ends the list, and stands
-//! on a line of its own where the numbers fill their lines.
+//! The numbers come one by one, and stand on an open line until it has twenty; then the next one is begun behind it. Some three
+//! thousand bytes are written at once, since a call of the system costs more than a line. So a list of any length is written
+//! without a text of its size, and no memory is taken. A 0 ends the list, and stands on a line of its own where the numbers fill
+//! their lines.
 //!
-//! What makes it right is one equation: what an open line has, and then the list from that place on, is what was still to come
+//! What makes it right is one equation: what waits with an open line, and then the list from that place on, is what was still to come
 //! before. The list as it comes from number to number (`flow`) is the list cut into runs of twenty (`wrap`), by one lemma.
 ghost use Rattle.std.specs.Prelude.{◌≡◌, ◌+◌, ◌≤◌, ◌<◌, List, [], ◌∷◌, ◌++◌, length, All, ◌≢◌, pos, OnOk, OnErr};
 ghost use Rattle.std.specs.Io.KnownBytes.{Appends};
@@ -19,12 +20,15 @@ use std::marker::Model;
 /// How many numbers stand on a line.
 pub const RUN: usize = 20;
 
-/// The line that is not written yet.
+// The most bytes of whole lines that wait: behind them there is room for one more line.
+const WAITING: usize = 3200;
+
+/// The line that is not full yet, behind whole lines that are not written yet.
 #[derive(Drop)]
 pub struct OpenLine {
-    // its bytes so far
+    // the bytes of all these so far
     bytes: Buffer,
-    // how many numbers stand on it, fewer than `RUN`
+    // how many numbers stand on the open line, fewer than `RUN`
     count: usize,
 }
 
@@ -36,13 +40,13 @@ impl Model for OpenLine {
 
     ghost view = { λ s. record { bytes = s.bytes; count = s.count } };
 
-    ghost invariant = { λ s. (s.count < 20) × (length s.bytes ≤ 64 + 40 * s.count) };
+    ghost invariant = { λ s. (s.count < 20) × (length s.bytes ≤ 3200 + 40 * s.count) };
 }
 
 // Pushes what stands before a number where so many stand on the line.
 fn push_lead(line: &mut Buffer, prefix: &[u8], count: usize)
     requires prefix { length prefix.now ≤ 16 }
-    requires room { length line.old ≤ 900 }
+    requires room { length line.old ≤ 4000 }
     ensures text { line.new ≡ line.old ++ lead prefix.now count }
     ensures size { length line.new ≤ length line.old + 16 }
 {
@@ -74,8 +78,8 @@ impl OpenLine {
         OpenLine { bytes, count: 0 }
     }
 
-    /// Takes the next number, behind a prefix of at most 16 bytes where it is the first of its line, and writes the line where it
-    /// is the last. After `Failed` a front of what was still to come was written.
+    /// Takes the next number, behind a prefix of at most 16 bytes where it is the first of its line. Where it is the last, and many
+    /// lines wait, they are written. After `Failed` a front of what was still to come was written.
     pub fn push<K: Sink>(&mut self, sink: &mut K, prefix: &[u8], number: i32) -> Result<(), Failed>
         requires { length prefix.now ≤ 16 }
         ensures ok { OnOk result (TakesNumber prefix.now number self.old self.new (K.written sink.old) (K.written sink.new)) }
@@ -89,13 +93,16 @@ impl OpenLine {
             return Ok(());
         }
         self.bytes.push(b'\n');
+        self.count = 0;
+        if self.bytes.len() <= WAITING {
+            return Ok(());
+        }
         let wrote = write_all(sink, self.bytes.as_slice());
         self.bytes.clear();
-        self.count = 0;
         wrote
     }
 
-    /// Writes the line with the 0 that ends the list.
+    /// Writes what waits, and the 0 that ends the list.
     pub fn finish<K: Sink>(&mut self, sink: &mut K, prefix: &[u8]) -> Result<(), Failed>
         requires { length prefix.now ≤ 16 }
         ensures ok { OnOk result (Appends (K.written sink.old) (K.written sink.new) (still_to_come prefix.now self.old [])) }

@@ -5,7 +5,7 @@ use mir.Syntax.{w32}
 use Rattle.std.specs.Io.KnownBytes.{Appends}
 use Rattle.io_edge.specs.Told.{AppendsFront}
 use Rattle.io_edge.specs.Wrapped.{LineSoFar, TakesNumber, FailsAt}
-use Rattle.io_edge.proofs.Flowing.{takes_open, takes_last, fails_last, fails_if, takes_if}
+use Rattle.io_edge.proofs.Flowing.{takes_open, takes_full, takes_last, fails_last, fails_if, takes_if}
 use Rattle.io_edge.proofs.wrapping.OpenLine.push.Goals as goal
 
 pub invariant_of-self : goal.invariant_of-self
@@ -21,6 +21,15 @@ returns-then-self-clause-ok g c =
     let pushed : c.push_number.new.self ≡ c.push_lead.new.line ++ signed_decimal number = c.push_number.ensures.text ∙ ap (λ z. c.push_lead.new.line ++ signed_decimal z) (to_z-of_z w32 number c.ranges.number) in
     let P : LineSoFar → Type 0 = λ old. TakesNumber c.args.prefix.now number old (record { bytes = c.push_number.new.self; count = c.self.inside.count + 1 }) w w in
     subst P c.self.view_is (takes_open w c.args.prefix.now number c.self.inside.bytes c.push_lead.new.line c.push_number.new.self c.self.inside.count (omega (arith, c.if-self.true)) c.push_lead.ensures.text pushed)
+
+pub returns-then-len-le-WAITING-clause-ok : goal.returns-then-len-le-WAITING-clause-ok
+returns-then-len-le-WAITING-clause-ok g c =
+    let w = g.K.Sink.written c.args.sink.now in
+    let number = c.args.number in
+    let pushed : c.push_number.new.self ≡ c.push_lead.new.line ++ signed_decimal number = c.push_number.ensures.text ∙ ap (λ z. c.push_lead.new.line ++ signed_decimal z) (to_z-of_z w32 number c.ranges.number) in
+    let count : c.self.inside.count ≡ 19 = omega (arith, c.if-self.false, c.self.invariant) in
+    let P : LineSoFar → Type 0 = λ old. TakesNumber c.args.prefix.now number old (record { bytes = c.push.new.self; count = 0 }) w w in
+    subst P c.self.view_is (takes_full w c.args.prefix.now number c.self.inside.bytes c.push_lead.new.line c.push_number.new.self c.push.new.self c.self.inside.count count c.push_lead.ensures.text pushed c.push.ensures)
 
 pub returns-clause-ok : goal.returns-clause-ok
 returns-clause-ok g c =
