@@ -27,6 +27,7 @@ use io_edge::buffer::Buffer;
 use io_edge::outside::{Failed, Sink, Source, write_all};
 use solver_api::solver::Solver;
 use std::alloc::Global;
+use std::mem;
 
 // The line for words that are not accepted.
 const USAGE_LINE: &str =
@@ -142,9 +143,14 @@ fn run_input<S: Source, K: Sink>(
                 }
             }
             Ok(Item::End) => {
+                // The process ends with the run. Its memory goes back to the system as a whole then, which costs less than to give
+                // back each list of the solver before.
                 if has_last_query(header.kind) {
-                    return last_reply(&mut solver, options, header.vars, sink);
+                    let last = last_reply(&mut solver, options, header.vars, sink);
+                    mem::forget(solver);
+                    return last;
                 }
+                mem::forget(solver);
                 return status;
             }
             Err(stop) => return stop_run(stop, sink),

@@ -180,8 +180,8 @@ returns-then-has_last_query-clause-answers g c =
     let next = c.next-in-loop-lits in
     let arm = c.in-Ok-End in
     let W : Item → Type 0 = λ i. ReadAnswers c.loop-lits.reader next.new.self (left c.loop-lits.source) (left next.new.source) (Ok i) in
-    λ a. last_answers c.args.options c.in-Ok-Header.header (state c.loop-lits.solver) c.loop-lits.status.code c.last_reply.result.code _ _ _ _ _ _ c.loop-lits.reader c.loop-lits.invariant.come (sym c.has_last_query.ensures ∙ c.if-has_last_query.true)
-    (subst W arm.field-0-is arm.ensures.answer) c.last_reply.ensures.ends a
+    λ a. last_answers c.args.options c.in-Ok-Header.header (state c.loop-lits.solver) c.loop-lits.status.code c.last_reply-last.result.code _ _ _ _ _ _ c.loop-lits.reader c.loop-lits.invariant.come (sym c.has_last_query.ensures ∙ c.if-has_last_query.true)
+    (subst W arm.field-0-is arm.ensures.answer) c.last_reply-last.ensures.ends a
 
 pub returns-then-has_last_query-clause-source_end : goal.returns-then-has_last_query-clause-source_end
 returns-then-has_last_query-clause-source_end g c =
@@ -193,7 +193,7 @@ returns-then-has_last_query-clause-source_end g c =
     λ _. ends_at left _ _ c.loop-lits.invariant.at_end next.ensures.unread (next.ensures.at_end ended)
 
 pub returns-then-has_last_query-clause-refuses : goal.returns-then-has_last_query-clause-refuses
-returns-then-has_last_query-clause-refuses g c = λ is. absurd (last_no c.args.options c.in-Ok-Header.header.vars (state c.loop-lits.solver) _ _ c.last_reply.result.code c.last_reply.ensures.ends (inl is))
+returns-then-has_last_query-clause-refuses g c = λ is. absurd (last_no c.args.options c.in-Ok-Header.header.vars (state c.loop-lits.solver) _ _ c.last_reply-last.result.code c.last_reply-last.ensures.ends (inl is))
 
 pub returns-then-has_last_query-clause-begins : goal.returns-then-has_last_query-clause-begins
 returns-then-has_last_query-clause-begins g c =
@@ -201,14 +201,14 @@ returns-then-has_last_query-clause-begins g c =
     let next = c.next-in-loop-lits in
     let arm = c.in-Ok-End in
     let W : Item → Type 0 = λ i. ReadAnswers c.loop-lits.reader next.new.self (left c.loop-lits.source) (left next.new.source) (Ok i) in
-    λ a. last_begins c.args.options c.in-Ok-Header.header (state c.loop-lits.solver) c.loop-lits.status.code c.last_reply.result.code _ _ _ _ _ _ c.loop-lits.reader c.loop-lits.invariant.come (sym c.has_last_query.ensures ∙ c.if-has_last_query.true)
-    (subst W arm.field-0-is arm.ensures.answer) c.last_reply.ensures.ends a
+    λ a. last_begins c.args.options c.in-Ok-Header.header (state c.loop-lits.solver) c.loop-lits.status.code c.last_reply-last.result.code _ _ _ _ _ _ c.loop-lits.reader c.loop-lits.invariant.come (sym c.has_last_query.ensures ∙ c.if-has_last_query.true)
+    (subst W arm.field-0-is arm.ensures.answer) c.last_reply-last.ensures.ends a
 
 pub returns-then-has_last_query-clause-cut_short : goal.returns-then-has_last_query-clause-cut_short
-returns-then-has_last_query-clause-cut_short g c = λ is. absurd (last_no c.args.options c.in-Ok-Header.header.vars (state c.loop-lits.solver) _ _ c.last_reply.result.code c.last_reply.ensures.ends (inr is))
+returns-then-has_last_query-clause-cut_short g c = λ is. absurd (last_no c.args.options c.in-Ok-Header.header.vars (state c.loop-lits.solver) _ _ c.last_reply-last.result.code c.last_reply-last.ensures.ends (inr is))
 
 pub returns-then-has_last_query-clause-read_fault : goal.returns-then-has_last_query-clause-read_fault
-returns-then-has_last_query-clause-read_fault g c = λ is. absurd (last_no c.args.options c.in-Ok-Header.header.vars (state c.loop-lits.solver) _ _ c.last_reply.result.code c.last_reply.ensures.ends (inr is))
+returns-then-has_last_query-clause-read_fault g c = λ is. absurd (last_no c.args.options c.in-Ok-Header.header.vars (state c.loop-lits.solver) _ _ c.last_reply-last.result.code c.last_reply-last.ensures.ends (inr is))
 
 pub returns-in-Ok-End-clause-codes : goal.returns-in-Ok-End-clause-codes
 returns-in-Ok-End-clause-codes g c = inl (is_answer c.loop-lits.invariant.come)
